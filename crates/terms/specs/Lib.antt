@@ -1,0 +1,2 @@
+-- The words that every other definition is written in.
+pub mod Terms
