@@ -1,0 +1,2 @@
+-- The laws of the character rules, for the rooms above.
+pub mod Utf8Laws

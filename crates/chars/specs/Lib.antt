@@ -1,0 +1,5 @@
+-- The character rules, in reading order: what bytes read as, the text as a view, screening, and classes.
+pub mod Utf8
+pub mod View
+pub mod Screening
+pub mod Classes

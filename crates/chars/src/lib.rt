@@ -1,0 +1,49 @@
+//! The character rules: what the bytes of a text read as (RFC 3629), screening, and the classes of characters.
+//! The token rules rest on these promises alone.
+mod classes;
+mod reading;
+mod screening;
+
+use answers::Ill;
+use answers::Place;
+pub use classes::is_keylike_continue;
+pub use classes::is_keylike_start;
+pub use classes::to_hex;
+pub use classes::xid_continue;
+pub use classes::xid_start;
+pub use reading::byte_at;
+pub use reading::folded_at;
+pub use reading::lead_of;
+pub use reading::read_at;
+pub use screening::offence_of;
+
+// What stands at a place: the end of the text, an ill-formed sequence, or a character and the next place.
+pub enum Read {
+    End,
+    Ill(Ill),
+    Char(u32, Place),
+}
+
+// What a first byte starts: a sequence of one byte, of two, three or four with the range of the second byte, or none.
+pub enum Lead {
+    Alone,
+    Two(u32, u32),
+    Three(u32, u32),
+    Four(u32, u32),
+    Never,
+}
+
+// What screening finds wrong with a character.
+pub enum Offence {
+    None,
+    Control,
+    Deprecated,
+    Forbidden,
+}
+
+// Whether a character is of a class; above U+02C1 that is not known.
+pub enum Class {
+    Inside,
+    Outside,
+    Unknown,
+}
