@@ -1,2 +1,3 @@
 -- The laws of the character rules, for the rooms above.
 pub mod Utf8Laws
+pub mod ViewLaws

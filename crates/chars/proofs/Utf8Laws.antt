@@ -1,6 +1,6 @@
 -- What `specs/Utf8.antt` yields: bounds on the bytes of a sequence, that a character ends beyond its start and within the text, and that it is a scalar.
 use Prim.Native.Nat.{ℕ, _≤_, _<_, _+_, _-_, _*_}
-use mathlib.Core.Path.{_≡_, refl, ap}
+use mathlib.Core.Path.{_≡_, refl, sym, ap}
 use mathlib.Core.Bool.{Bool, true, false, _&&_, _||_}
 use mathlib.Core.List.{List, [], _∷_}
 use mathlib.Core.Logic.{_⊎_, inl, inr, ⊎-elim}
@@ -129,12 +129,12 @@ byte-in s p h = go (leb (length s) (p .0)) refl
     go true e = let z : getD s (p .0) 0 ≡ 0 = List·getD-eq-default s 0 (leb-true _ _ e) in omega arith
     go false e = leb-false _ _ e
 
--- THE LAW of a character: it ends beyond its start, and within the text
+-- THE LAW of a character: it ends beyond its start, and within the text. Its start is below the cap and its end near, so no sum with it is too large
 pub record Onward (s : List ℕ) (p n : Place) : Type 0 where
   pub beyond : p .0 < n .0
   pub inside : n .0 ≤ length s
   pub capped : p .0 < cap
-  pub near : n .0 ≤ p .0 + 4
+  pub near : n .0 ≤ p .0 + 5
 
 pub scalar-low : (c : ℕ) → c ≤ 0xD7FF → isScalar c ≡ true
 unfolding isScalar
@@ -169,7 +169,7 @@ chosen false p e = absurd (char-not-ill e)
 
 module _ (s : List ℕ) (p : Place) (c : ℕ) (n : Place) where
   abbrev Says : Type 0
-  Says = Onward s p n × (isScalar c ≡ true)
+  Says = Onward s p n × (isScalar c ≡ true) × (n .0 ≤ p .0 + 4)
 
   ways : (l : Lead) → leadOf (byteAt s p) ≡ l → p .0 < length s → p .0 < cap
       → charBy p (byteAt s p) (byteAt s (onBy 1 p)) (byteAt s (onBy 2 p)) (byteAt s (onBy 3 p)) l ≡ Char c n → Says
@@ -177,12 +177,12 @@ module _ (s : List ℕ) (p : Place) (c : ℕ) (n : Place) where
   ways Alone h i k e =
       let q = char-is e in
       let m : p .0 + 1 ≡ n .0 = ap (λ (x : Place). x .0) (q .1) in
-      let b = lawful _ _ h in (omega arith, scalar-low c (omega arith))
+      let b = lawful _ _ h in (omega arith, scalar-low c (omega arith), omega arith)
   ways (Two low high) h i k e =
       let q = chosen _ p e in
       let b = lawful _ _ h in
       let w = within-true low high _ (q .0) in
-      let l = byte-in s (onBy 1 p) (omega arith) in (omega arith, scalar-low c (omega arith))
+      let l = byte-in s (onBy 1 p) (omega arith) in (omega arith, scalar-low c (omega arith), omega arith)
   ways (Three low high) h i k e =
       let q = chosen _ p e in
       let b = lawful _ _ h in
@@ -190,7 +190,7 @@ module _ (s : List ℕ) (p : Place) (c : ℕ) (n : Place) where
       let w = within-true low high _ (a .0) in
       let v = tail-bounds _ (a .1) in
       let l = byte-in s (onBy 2 p) (omega arith) in
-      (omega arith, ⊎-elim (λ g. scalar-low c (omega arith)) (λ g. scalar-high c (omega arith) (omega arith)) (b .5))
+      (omega arith, ⊎-elim (λ g. scalar-low c (omega arith)) (λ g. scalar-high c (omega arith) (omega arith)) (b .5), omega arith)
   ways (Four low high) h i k e =
       let q = chosen _ p e in
       let b = lawful _ _ h in
@@ -199,7 +199,7 @@ module _ (s : List ℕ) (p : Place) (c : ℕ) (n : Place) where
       let w = within-true low high _ (a .0) in
       let v = tail-bounds _ (a′ .0) in
       let u = tail-bounds _ (a′ .1) in
-      let l = byte-in s (onBy 3 p) (omega arith) in (omega arith, scalar-high c (omega arith) (omega arith))
+      let l = byte-in s (onBy 3 p) (omega arith) in (omega arith, scalar-high c (omega arith) (omega arith), omega arith)
   ways Never h i k e = absurd (char-not-ill e)
 
   both : charAt s p ≡ Char c n → Says
@@ -219,3 +219,77 @@ module _ (s : List ℕ) (p : Place) (c : ℕ) (n : Place) where
 
   pub scalar : charAt s p ≡ Char c n → isScalar c ≡ true
   scalar e = both e .1
+
+  pub four-at-most : charAt s p ≡ Char c n → n .0 ≤ p .0 + 4
+  four-at-most e = both e .2
+
+-- what an ill-formed sequence's equation says: it starts at the place that was asked
+ill-is : {i j : Sequence} → Ill i ≡ Ill j → i ≡ j
+ill-is e = cc
+
+pub end-not-ill : {i : Sequence} → End ≡ Ill i → ⊥
+end-not-ill e = let z : _≡_ {A = ℕ} 0 1 = cc in omega arith
+
+char-not-end′ : {c : ℕ} {n : Place} → Char c n ≡ End → ⊥
+char-not-end′ e = let z : _≡_ {A = ℕ} 0 1 = cc in omega arith
+
+ill-not-end : {i : Sequence} → Ill i ≡ End → ⊥
+ill-not-end e = let z : _≡_ {A = ℕ} 0 1 = cc in omega arith
+
+char-or-ill : (t : Bool) (p : Place) (x : ℕ) (m : Place) (i : Sequence) → (if t then Char x m else illAt p) ≡ Ill i → i ≡ record { at = p }
+char-or-ill true p x m i e = absurd (char-not-ill (sym e))
+char-or-ill false p x m i e = sym (ill-is e)
+
+char-or-end : (t : Bool) (p : Place) (x : ℕ) (m : Place) → (if t then Char x m else illAt p) ≡ End → ⊥
+char-or-end true p x m e = char-not-end′ e
+char-or-end false p x m e = ill-not-end e
+
+module _ (s : List ℕ) (p : Place) where
+  by-ill : (l : Lead) (i : Sequence)
+      → charBy p (byteAt s p) (byteAt s (onBy 1 p)) (byteAt s (onBy 2 p)) (byteAt s (onBy 3 p)) l ≡ Ill i → i ≡ record { at = p }
+  unfolding charBy
+  by-ill Alone i e = absurd (char-not-ill (sym e))
+  by-ill (Two low high) i e = char-or-ill (within low high (byteAt s (onBy 1 p))) p _ _ i e
+  by-ill (Three low high) i e = char-or-ill (within low high (byteAt s (onBy 1 p)) && isTail (byteAt s (onBy 2 p))) p _ _ i e
+  by-ill (Four low high) i e = char-or-ill (within low high (byteAt s (onBy 1 p)) && (isTail (byteAt s (onBy 2 p)) && isTail (byteAt s (onBy 3 p)))) p _ _ i e
+  by-ill Never i e = sym (ill-is e)
+
+  pub ill-at : (i : Sequence) → charAt s p ≡ Ill i → i ≡ record { at = p }
+  unfolding charAt
+  ill-at i e = go (leb (length s) (p .0) || leb cap (p .0)) e
+    where
+      go : (t : Bool)
+          → (if t then End else charBy p (byteAt s p) (byteAt s (onBy 1 p)) (byteAt s (onBy 2 p)) (byteAt s (onBy 3 p)) (leadOf (byteAt s p))) ≡ Ill i
+          → i ≡ record { at = p }
+      go true e = absurd (end-not-ill e)
+      go false e = by-ill (leadOf (byteAt s p)) i e
+
+  by-end : (l : Lead) → charBy p (byteAt s p) (byteAt s (onBy 1 p)) (byteAt s (onBy 2 p)) (byteAt s (onBy 3 p)) l ≡ End → ⊥
+  unfolding charBy
+  by-end Alone e = char-not-end′ e
+  by-end (Two low high) e = char-or-end (within low high (byteAt s (onBy 1 p))) p _ _ e
+  by-end (Three low high) e = char-or-end (within low high (byteAt s (onBy 1 p)) && isTail (byteAt s (onBy 2 p))) p _ _ e
+  by-end (Four low high) e = char-or-end (within low high (byteAt s (onBy 1 p)) && (isTail (byteAt s (onBy 2 p)) && isTail (byteAt s (onBy 3 p)))) p _ _ e
+  by-end Never e = ill-not-end e
+
+  -- the end of a text that is not too long is its length
+  pub end-at : length s ≤ cap → charAt s p ≡ End → length s ≤ p .0
+  unfolding charAt
+  end-at k e = go (leb (length s) (p .0)) refl (leb cap (p .0)) refl e
+    where
+      go : (t : Bool) → leb (length s) (p .0) ≡ t → (u : Bool) → leb cap (p .0) ≡ u
+          → (if t || u then End else charBy p (byteAt s p) (byteAt s (onBy 1 p)) (byteAt s (onBy 2 p)) (byteAt s (onBy 3 p)) (leadOf (byteAt s p))) ≡ End
+          → length s ≤ p .0
+      go true h u g e = leb-true _ _ h
+      go false h true g e = let z : cap ≤ p .0 = leb-true cap (p .0) g in omega arith
+      go false h false g e = absurd (by-end (leadOf (byteAt s p)) e)
+
+  -- nothing is read at the end
+  pub at-end : length s ≤ p .0 → charAt s p ≡ End
+  unfolding charAt
+  at-end h = rw (le-leb _ _ h)
+
+  -- a byte below 0x80 is a character by itself
+  pub ascii-at : p .0 < length s → p .0 < cap → byteAt s p < 0x80 → charAt s p ≡ Char (byteAt s p) (onBy 1 p)
+  unfolding charAt charBy leadOf leads said
+  ascii-at i k h = rw (lt-leb _ _ i, lt-leb _ _ k, within-yes 0 0x7F (byteAt s p) (omega arith) (omega arith))
