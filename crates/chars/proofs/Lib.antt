@@ -1,3 +1,5 @@
 -- The laws of the character rules, for the rooms above.
 pub mod Utf8Laws
 pub mod ViewLaws
+pub mod ScreeningLaws
+pub mod EncodeLaws

@@ -152,6 +152,9 @@ scalar-is c e = go (leb c 0xD7FF) refl e
     go true h e = inl (leb-true _ _ h)
     go false h e = inr (within-true 0xE000 0x10FFFF c e)
 
+pub scalar-at-most : (c : ℕ) → isScalar c ≡ true → c ≤ 0x10FFFF
+scalar-at-most c e = ⊎-elim (λ h. omega arith) (λ h. h .1) (scalar-is c e)
+
 -- what a character's equation says
 pub char-is : {c d : ℕ} {n m : Place} → Char c n ≡ Char d m → (c ≡ d) × (n ≡ m)
 char-is e = (cc, cc)

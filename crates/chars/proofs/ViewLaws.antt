@@ -4,6 +4,7 @@ use Prim.Native.Nat.{ℕ, zero, suc, _≤_, _<_, _+_, _-_}
 use mathlib.Core.Path.{_≡_, refl, sym, ap, _∙_}
 use mathlib.Core.Bool.{Bool, true, false, _&&_}
 use mathlib.Core.List.{List}
+use native.Mathlib.Nat.{add-zero}
 use native.Mathlib.Omega.{arith}
 use lib.Dec.{eqb}
 use lib.ListN.{length}
@@ -144,3 +145,9 @@ module _ (s : List ℕ) (p : Place) where
       go End e = refl
       go (Ill i) e = ap (λ (j : Sequence). j .at) (folded-ill-at s p i e)
       go (Char c n) e = refl
+
+-- what stays the same from each of m places to the next is the same m places on
+pub strides : {A : Type 0} (F : Place → A) (p : Place) (m : ℕ) → ((i : ℕ) → i < m → F (onBy i p) ≡ F (onBy 1 (onBy i p))) → F p ≡ F (onBy m p)
+strides F p zero on = ap (λ (n : ℕ). F (record { 0 = n })) (sym (add-zero (p .0)))
+strides F p (suc m) on =
+    strides F p m (λ i h. on i (omega arith)) ∙ on m (omega arith) ∙ ap (λ (n : ℕ). F (record { 0 = n })) (let e : p .0 + m + 1 ≡ p .0 + suc m = omega arith in e)

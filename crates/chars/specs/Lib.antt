@@ -3,3 +3,5 @@ pub mod Utf8
 pub mod View
 pub mod Screening
 pub mod Classes
+-- What only inner contracts cite.
+pub mod inner

@@ -1,8 +1,8 @@
 -- RFC 3629: what stands at a place of a text, and the bytes of a character.
 use Prim.Native.Nat.{ℕ, _+_, _-_, _*_, _/_, _%_}
 use mathlib.Core.Bool.{Bool, _&&_, _||_}
-use mathlib.Core.List.{List, [], _∷_}
-use lib.ListN.{length, getD}
+use mathlib.Core.List.{List, [], _∷_, _++_}
+use lib.ListN.{length, getD, drop}
 use lib.Dec.{leb, eqb}
 use Rattle.terms.specs.Terms.{if_then_else_, within, Row, _to_is_, said}
 use Rattle.answers.specs.declared.Place.{Place}
@@ -82,3 +82,10 @@ encode c =
     else if leb c 0x7FF then (0xC0 + c / 64) ∷ (0x80 + c % 64) ∷ []
     else if leb c 0xFFFF then (0xE0 + c / 4096) ∷ (0x80 + c / 64 % 64) ∷ (0x80 + c % 64) ∷ []
     else (0xF0 + c / 262144) ∷ (0x80 + c / 4096 % 64) ∷ (0x80 + c / 64 % 64) ∷ (0x80 + c % 64) ∷ []
+
+-- The bytes of a character at the front of a buffer, counted; no character, or no room, leaves the buffer as it was and counts 0.
+unfoldable pub encoded : ℕ → List ℕ → ℕ × List ℕ
+encoded c buffer =
+    if isScalar c && leb (length (encode c)) (length buffer)
+    then (length (encode c), encode c ++ drop (length (encode c)) buffer)
+    else (0, buffer)

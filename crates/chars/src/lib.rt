@@ -1,6 +1,7 @@
 //! The character rules: what the bytes of a text read as (RFC 3629), screening, and the classes of characters.
 //! The token rules rest on these promises alone.
 mod classes;
+mod encoding;
 mod reading;
 mod screening;
 
@@ -11,10 +12,13 @@ pub use classes::is_keylike_start;
 pub use classes::to_hex;
 pub use classes::xid_continue;
 pub use classes::xid_start;
+pub use encoding::encode;
+pub use encoding::is_scalar;
 pub use reading::byte_at;
 pub use reading::folded_at;
 pub use reading::lead_of;
 pub use reading::read_at;
+pub use screening::detect_invalid_input;
 pub use screening::offence_of;
 
 // What stands at a place: the end of the text, an ill-formed sequence, or a character and the next place.
