@@ -3,3 +3,4 @@ pub mod Utf8Laws
 pub mod ViewLaws
 pub mod ScreeningLaws
 pub mod EncodeLaws
+pub mod RoundTrip

@@ -166,7 +166,7 @@ pub char-not-ill : {c : ℕ} {n : Place} {i : Sequence} → Ill i ≡ Char c n �
 char-not-ill e = let z : _≡_ {A = ℕ} 0 1 = cc in omega arith
 
 -- what is read where a test decides
-chosen : (t : Bool) (p : Place) {c x : ℕ} {n m : Place} → (if t then Char x m else illAt p) ≡ Char c n → (t ≡ true) × (x ≡ c) × (m .0 ≡ n .0)
+pub chosen : (t : Bool) (p : Place) {c x : ℕ} {n m : Place} → (if t then Char x m else illAt p) ≡ Char c n → (t ≡ true) × (x ≡ c) × (m .0 ≡ n .0)
 chosen true p e = (refl, char-is e .0, ap (λ (q : Place). q .0) (char-is e .1))
 chosen false p e = absurd (char-not-ill e)
 
