@@ -1,3 +1,4 @@
--- Places and positions, and the numbers that come back.
+-- Places and positions, the numbers that come back, and the caps.
 pub mod Places
 pub mod Refusals
+pub mod Caps

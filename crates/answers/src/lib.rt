@@ -1,6 +1,7 @@
 //! What every call answers with: places and positions, spans, the refusals of the interface paper's table, and the three numbers that stand for each.
 ghost use mathlib.Core.Path.{_≡_};
 ghost use Rattle.answers.specs.Places.{inMap};
+ghost use Rattle.answers.specs.Caps.{lengthVerdict, textVerdict};
 ghost use Rattle.answers.specs.Refusals.{row, told, toldOf};
 
 // A place in the source: bytes from the text's start.
@@ -73,6 +74,34 @@ pub fn in_map(offset: u32, place: Place) -> Position
     ensures { λ r. ⌜ r ≡ inMap offset place ⌝ }
 {
     Position(std::num::wrapping_add_u32(offset, place.0))
+}
+
+// 1: a text, or the names of a sheet, of this many bytes.
+pub fn check_length(length: usize) -> Verdict
+    ensures { λ r. ⌜ r ≡ lengthVerdict length ⌝ }
+{
+    if length <= 65536 {
+        return Verdict::Accepted;
+    }
+    if 4294967295 < length {
+        return Verdict::Refused(Refusal::TooLong(4294967295));
+    }
+    Verdict::Refused(Refusal::TooLong(length as u32))
+}
+
+// 1, then 2: a text of this many bytes, at this offset in the map.
+pub fn check_text(offset: u32, length: usize) -> Verdict
+    ensures { λ r. ⌜ r ≡ textVerdict offset length ⌝ }
+{
+    match check_length(length) {
+        Verdict::Refused(refusal) => Verdict::Refused(refusal),
+        Verdict::Accepted => {
+            if offset as usize + length <= 4294967294 {
+                return Verdict::Accepted;
+            }
+            Verdict::Refused(Refusal::OutOfMap)
+        }
+    }
 }
 
 fn row(number: u32, position: u32, detail: u32) -> Numbers

@@ -14,10 +14,11 @@ use Rattle.terms.specs.Terms.{if_then_else_, within, said}
 use Rattle.terms.proofs.TestLaws.{within-yes, within-true, and-both}
 use Rattle.terms.proofs.TableLaws.{in-match, split, word, isKey, isKeys, up, down}
 use Rattle.answers.specs.declared.Place.{Place}
-use Rattle.answers.specs.declared.Verdict.the-variants.{Accepted, Refused}
-use Rattle.answers.specs.declared.Refusal.{Refusal}
+use Rattle.answers.specs.declared.Verdict.the-variants.{Accepted}
 use Rattle.answers.specs.Places.{place}
-use Rattle.chars.specs.Utf8.{cap, byteAt, onBy, leads, leadOf, isTail, illAt, charBy, charAt, isScalar, encode}
+use Rattle.answers.proofs.CapsLaws.{refused-not}
+use Rattle.answers.specs.Caps.{cap}
+use Rattle.chars.specs.Utf8.{byteAt, onBy, leads, leadOf, isTail, illAt, charBy, charAt, isScalar, encode}
 use Rattle.chars.specs.View.{Chars, end, ill, char, charsFrom}
 use Rattle.chars.specs.Screening.{wellFormed}
 use Rattle.chars.specs.declared.Read.{Read}
@@ -215,9 +216,6 @@ pub encodeAll : Chars → List ℕ
 encodeAll (end p) = []
 encodeAll (ill i) = []
 encodeAll (char p c v) = encode c ++ encodeAll v
-
-refused-not : {f : Refusal} → Refused f ≡ Accepted → ⊥
-refused-not e = let z : _≡_ {A = ℕ} 0 1 = cc in omega arith
 
 module _ (s : List ℕ) (short : length s ≤ cap) where
   all-from : (k : ℕ) (p : Place) → length s - p .0 < k → wellFormed (charsFrom s p) ≡ Accepted → encodeAll (charsFrom s p) ≡ drop (p .0) s

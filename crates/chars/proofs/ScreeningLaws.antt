@@ -20,9 +20,11 @@ use Rattle.answers.specs.declared.Verdict.{Verdict}
 use Rattle.answers.specs.declared.Verdict.the-variants.{Accepted, Refused}
 use Rattle.answers.specs.declared.Refusal.the-variants.{IllFormed}
 use Rattle.answers.specs.Places.{place}
-use Rattle.chars.specs.Utf8.{cap, byteAt, onBy, charAt}
+use Rattle.answers.specs.Caps.{cap}
+use Rattle.chars.specs.Utf8.{byteAt, onBy, charAt}
 use Rattle.chars.specs.View.{Chars, end, ill, char, charsFrom}
-use Rattle.chars.specs.Screening.{offences, offenceOf, screenedBy, screened, wellFormed, firstOf, invalidInput}
+use Rattle.answers.specs.Caps.{firstOf}
+use Rattle.chars.specs.Screening.{offences, offenceOf, screenedBy, screened, wellFormed, invalidInput}
 use Rattle.chars.specs.inner.OneWalk.{isPlain, isOdd, plainFrom, sooner, judged}
 use Rattle.chars.specs.declared.Read.the-variants.{End, Ill, Char}
 use Rattle.chars.specs.declared.Offence.{Offence}
@@ -30,10 +32,10 @@ use Rattle.chars.specs.declared.Offence.the-variants.{None, Control, Dep
 use Rattle.chars.proofs.Utf8Laws.{ascii-at}
 use Rattle.chars.proofs.ViewLaws.{chars-end, chars-ill, chars-char, strides}
 
-first-accepted : (v : Verdict) → firstOf v Accepted ≡ v
+nothing-more : (v : Verdict) → firstOf v Accepted ≡ v
 unfolding firstOf
-first-accepted Accepted = refl
-first-accepted (Refused f) = refl
+nothing-more Accepted = refl
+nothing-more (Refused f) = refl
 
 one-more : (v : Verdict) (o : Offence) (p : Place) (c : ℕ) (rest : Verdict)
     → firstOf (firstOf v (screenedBy o p c Accepted)) rest ≡ firstOf v (screenedBy o p c rest)
@@ -47,7 +49,7 @@ one-more (Refused f) o p c rest = refl
 -- THE LAW: the one walk from the start is well-formedness first, then screening
 judged-is : (v : Chars) (soFar : Verdict) → judged soFar v ≡ firstOf (wellFormed v) (firstOf soFar (screened v))
 unfolding judged wellFormed screened firstOf sooner
-judged-is (end p) soFar = sym (first-accepted soFar)
+judged-is (end p) soFar = sym (nothing-more soFar)
 judged-is (ill i) soFar = refl
 judged-is (char p c v) soFar =
     judged-is v (firstOf soFar (screenedBy (offenceOf c) p c Accepted))
@@ -92,7 +94,7 @@ plain-fine b h =
 
 sooner-plain : (soFar : Verdict) (p : Place) (b : ℕ) → isPlain b ≡ true → sooner soFar p b ≡ soFar
 unfolding sooner screenedBy
-sooner-plain soFar p b h = rw (plain-fine b h) (first-accepted soFar)
+sooner-plain soFar p b h = rw (plain-fine b h) (nothing-more soFar)
 
 pub plain-from-fits : (s : List ℕ) (k : ℕ) → plainFrom s k ≡ true → (k + 64 ≤ length s) × (k + 64 ≤ cap)
 unfolding plainFrom

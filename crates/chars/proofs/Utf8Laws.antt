@@ -12,7 +12,8 @@ use Rattle.terms.specs.Terms.{if_then_else_, within, Row, _to_is_, said}
 use Rattle.terms.proofs.TestLaws.{and-both, or-neither, within-true, within-yes}
 use Rattle.answers.specs.declared.Place.{Place}
 use Rattle.answers.specs.declared.Ill.{Ill as Sequence}
-use Rattle.chars.specs.Utf8.{cap, byteAt, onBy, leads, leadOf, isTail, illAt, charBy, charAt, isScalar}
+use Rattle.answers.specs.Caps.{cap}
+use Rattle.chars.specs.Utf8.{byteAt, onBy, leads, leadOf, isTail, illAt, charBy, charAt, isScalar}
 use Rattle.chars.specs.declared.Read.{Read}
 use Rattle.chars.specs.declared.Read.the-variants.{End, Ill, Char}
 use Rattle.chars.specs.declared.Lead.{Lead}

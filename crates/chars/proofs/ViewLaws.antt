@@ -13,7 +13,8 @@ use Rattle.terms.specs.Terms.{if_then_else_}
 use Rattle.terms.proofs.TestLaws.{and-both}
 use Rattle.answers.specs.declared.Place.{Place}
 use Rattle.answers.specs.declared.Ill.{Ill as Sequence}
-use Rattle.chars.specs.Utf8.{cap, byteAt, onBy, charAt, isScalar}
+use Rattle.answers.specs.Caps.{cap}
+use Rattle.chars.specs.Utf8.{byteAt, onBy, charAt, isScalar}
 use Rattle.chars.specs.View.{Chars, end, ill, char, placeOf, seenAt, seenBy, charsFrom, folded, foldedAt, foldedFrom}
 use Rattle.chars.specs.declared.Read.{Read}
 use Rattle.chars.specs.declared.Read.the-variants.{End, Ill, Char}

@@ -7,6 +7,7 @@ use Rattle.answers.specs.declared.Verdict.{Verdict}
 use Rattle.answers.specs.declared.Verdict.the-variants.{Accepted, Refused}
 use Rattle.answers.specs.declared.Refusal.the-variants.{IllFormed, ControlCodepoint, DeprecatedCodepoint, ForbiddenCodepoint}
 use Rattle.answers.specs.Places.{place}
+use Rattle.answers.specs.Caps.{firstOf}
 use Rattle.chars.specs.declared.Offence.{Offence}
 use Rattle.chars.specs.declared.Offence.the-variants.{None, Control, Deprecated, Forbidden}
 use Rattle.chars.specs.View.{Chars, end, ill, char, charsFrom}
@@ -49,11 +50,6 @@ unfoldable pub wellFormed : Chars → Verdict
 wellFormed (end p) = Accepted
 wellFormed (ill i) = Refused (IllFormed i)
 wellFormed (char p c v) = wellFormed v
-
--- The first verdict where it refuses, else the second.
-unfoldable pub firstOf : Verdict → Verdict → Verdict
-firstOf Accepted v = v
-firstOf (Refused f) v = Refused f
 
 -- What a whole text gets: 3 wherever it stands, then screening.
 unfoldable pub invalidInput : List ℕ → Verdict

@@ -7,14 +7,11 @@ use lib.Dec.{leb, eqb}
 use Rattle.terms.specs.Terms.{if_then_else_, within, Row, _to_is_, said}
 use Rattle.answers.specs.declared.Place.{Place}
 use Rattle.answers.specs.Places.{place}
+use Rattle.answers.specs.Caps.{cap}
 use Rattle.chars.specs.declared.Read.{Read}
 use Rattle.chars.specs.declared.Read.the-variants.{End, Ill, Char}
 use Rattle.chars.specs.declared.Lead.{Lead}
 use Rattle.chars.specs.declared.Lead.the-variants.{Alone, Two, Three, Four, Never}
-
--- No text is longer: each call refuses a longer one before it reads (refusal 1), so nothing is read at or past this place.
-abbrev pub cap : ℕ
-cap = 65536
 
 -- The byte at a place. Past the end it is 0, which goes on with no sequence.
 unfoldable pub byteAt : List ℕ → Place → ℕ
@@ -65,7 +62,7 @@ charBy p b c d e (Four low high) =
     else illAt p
 charBy p b c d e Never = illAt p
 
--- What stands at a place of a text.
+-- What stands at a place of a text. Each call refuses a text longer than the cap before it reads (refusal 1), so nothing is read at or past the cap.
 unfoldable pub charAt : List ℕ → Place → Read
 charAt s p =
     if leb (length s) (p .0) || leb cap (p .0) then End

@@ -7,7 +7,8 @@ ghost use mathlib.Core.Path.{_≡_};
 ghost use mathlib.Core.Bool.{_&&_};
 ghost use Prim.Native.Nat.{_<_};
 ghost use Rattle.terms.specs.Terms.{within};
-ghost use Rattle.chars.specs.Utf8.{cap, byteAt, onBy, leadOf, isTail, charBy, charAt};
+ghost use Rattle.answers.specs.Caps.{cap};
+ghost use Rattle.chars.specs.Utf8.{byteAt, onBy, leadOf, isTail, charBy, charAt};
 ghost use Rattle.chars.specs.View.{foldedAt};
 
 // The byte at a place, 0 past the end.

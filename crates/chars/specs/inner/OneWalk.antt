@@ -9,9 +9,11 @@ use Rattle.answers.specs.declared.Verdict.{Verdict}
 use Rattle.answers.specs.declared.Verdict.the-variants.{Accepted, Refused}
 use Rattle.answers.specs.declared.Refusal.the-variants.{IllFormed}
 use Rattle.answers.specs.declared.Place.{Place}
-use Rattle.chars.specs.Utf8.{cap}
+use Rattle.answers.specs.Caps.{cap}
+use Rattle.chars.specs.Utf8.{}
 use Rattle.chars.specs.View.{Chars, end, ill, char}
-use Rattle.chars.specs.Screening.{offenceOf, screenedBy, firstOf}
+use Rattle.answers.specs.Caps.{firstOf}
+use Rattle.chars.specs.Screening.{offenceOf, screenedBy}
 
 -- A byte that is a character by itself, and that screening lets pass.
 unfoldable pub isPlain : ℕ → Bool

@@ -5,7 +5,8 @@ use lib.ListN.{length}
 use Rattle.answers.specs.Places.{place}
 use Rattle.answers.specs.declared.Verdict.the-variants.{Accepted}
 use Rattle.chars.specs.declared.Read.the-variants.{Char}
-use Rattle.chars.specs.Utf8.{cap, charAt}
+use Rattle.answers.specs.Caps.{cap}
+use Rattle.chars.specs.Utf8.{charAt}
 use Rattle.chars.specs.View.{charsFrom}
 use Rattle.chars.specs.inner.OneWalk.{judged}
 use Rattle.chars.specs.Screening.{invalidInput}

@@ -1,4 +1,5 @@
-use Rattle.chars.specs.Screening.{screenedBy, firstOf}
+use Rattle.answers.specs.Caps.{firstOf}
+use Rattle.chars.specs.Screening.{screenedBy}
 use Rattle.chars.specs.inner.OneWalk.{sooner}
 use borrow.Author.Needs.{needs}
 use Rattle.chars.proofs.screening.sooner.Statement.{statement}

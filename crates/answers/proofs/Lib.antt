@@ -1,0 +1,2 @@
+-- What the caps and the map yield, for the rooms above.
+pub mod CapsLaws
