@@ -1,0 +1,3 @@
+-- The string rule, and decoding.
+pub mod Strings
+pub mod Decoding
