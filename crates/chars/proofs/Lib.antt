@@ -4,3 +4,4 @@ pub mod ViewLaws
 pub mod ScreeningLaws
 pub mod EncodeLaws
 pub mod RoundTrip
+pub mod RunLaws

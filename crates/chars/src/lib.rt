@@ -3,6 +3,7 @@
 mod classes;
 mod encoding;
 mod reading;
+mod runs;
 mod screening;
 
 use answers::Ill;
@@ -18,6 +19,7 @@ pub use reading::byte_at;
 pub use reading::folded_at;
 pub use reading::lead_of;
 pub use reading::read_at;
+pub use runs::run_end;
 pub use screening::detect_invalid_input;
 pub use screening::offence_of;
 
@@ -50,4 +52,10 @@ pub enum Class {
     Inside,
     Outside,
     Unknown,
+}
+
+// A set of bytes below 0x80: bit b of `low` for a byte b below 64, bit b - 64 of `high` for any other.
+pub struct AsciiSet {
+    pub low: u64,
+    pub high: u64,
 }

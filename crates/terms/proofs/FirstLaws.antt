@@ -57,6 +57,15 @@ module _ (test : ℕ → Bool) where
       go true h = omega arith
       go false h = omega arith
 
+  pub first-from : (n i : ℕ) → i ≤ first test i n
+  unfolding first
+  first-from zero i = le-refl i
+  first-from (suc n) i = go (test i) (first-from n (suc i))
+    where
+      go : (t : Bool) → suc i ≤ first test (suc i) n → i ≤ (if t then i else first test (suc i) n)
+      go true h = le-refl i
+      go false h = omega arith
+
   pub first-passes : (n i : ℕ) → first test i n < i + n → test (first test i n) ≡ true
   unfolding first
   first-passes zero i l = absurd (omega arith)

@@ -1,0 +1,90 @@
+-- A run of bytes of one set is as many characters, of one byte each.
+use Prim.Native.Nat.{ℕ, zero, suc, _+_, _-_, _*_, _/_, _%_, _^_, _≤_, _<_, min}
+use mathlib.Core.Path.{_≡_, refl, sym, ap, _∙_}
+use mathlib.Core.Bool.{Bool, true, false, not, _&&_, _||_}
+use mathlib.Core.List.{List}
+use native.Mathlib.Omega.{arith}
+use lib.Dec.{ltb, eqb}
+use lib.ListN.{length, getD}
+use borrow.Author.Tests.{ltb-true, eqb-true, eqb-false, not-false}
+use Rattle.terms.specs.Terms.{if_then_else_, first}
+use Rattle.terms.proofs.TestLaws.{and-both, clash}
+use Rattle.terms.proofs.FirstLaws.{first-le, first-from, none-before}
+use Rattle.answers.specs.declared.Place.{Place}
+use Rattle.answers.specs.Places.{place}
+use Rattle.answers.specs.Caps.{cap}
+use Rattle.chars.specs.Utf8.{byteAt, onBy, charAt}
+use Rattle.chars.specs.View.{foldedAt}
+use Rattle.chars.specs.inner.Runs.{inSet, stopsAt, runEnd}
+use Rattle.chars.specs.declared.AsciiSet.{AsciiSet}
+use Rattle.chars.specs.declared.Read.the-variants.{Char}
+use Rattle.chars.proofs.ViewLaws.{folded-ascii-at, strides}
+
+-- the bytes of a set are below 0x80
+in-set-low : (set : AsciiSet) (b : ℕ) → inSet set b ≡ true → b < 0x80
+unfolding inSet
+in-set-low set b e = go (ltb b 64) refl (ltb b 128) refl e
+  where
+    go : (t : Bool) → ltb b 64 ≡ t → (u : Bool) → ltb b 128 ≡ u
+        → (if t then eqb (set .low / 2 ^ b % 2) 1 else if u then eqb (set .high / 2 ^ (b - 64) % 2) 1 else false) ≡ true → b < 0x80
+    go true h u g e = let z = ltb-true b 64 h in omega arith
+    go false h true g e = ltb-true b 128 g
+    go false h false g e = absurd (clash false e refl)
+
+-- where a run ends: not before its start, and within the text
+module _ (s : List ℕ) (set : AsciiSet) (p : Place) where
+  pub run-beyond : p .0 ≤ runEnd s set p .0
+  unfolding runEnd
+  run-beyond = first-from (stopsAt s set) (min (length s) cap - p .0) (p .0)
+
+  pub run-inside : p .0 ≤ length s → runEnd s set p .0 ≤ length s
+  unfolding runEnd
+  run-inside h = omega (arith, first-le (stopsAt s set) (min (length s) cap - p .0) (p .0))
+
+  run-limit : runEnd s set p .0 ≤ p .0 + (min (length s) cap - p .0)
+  unfolding runEnd
+  run-limit = first-le (stopsAt s set) (min (length s) cap - p .0) (p .0)
+
+  member : (i : ℕ) → i < runEnd s set p .0 - p .0 → inSet set (byteAt s (onBy i p)) ≡ true
+  unfolding runEnd byteAt
+  member i h = not-false _ (none-before (stopsAt s set) (min (length s) cap - p .0) (p .0) (p .0 + i) (omega arith) (omega arith))
+
+  -- THE LAW: what a byte of the set does not change, the whole run does not change
+  pub run-strides : {A : Type 0} (F : Place → A) → inSet set 13 ≡ false
+      → ((q : Place) → inSet set (byteAt s q) ≡ true → foldedAt s q ≡ Char (byteAt s q) (onBy 1 q) → F q ≡ F (onBy 1 q))
+      → F p ≡ F (runEnd s set p)
+  run-strides F no-cr one = strides F p (runEnd s set p .0 - p .0) turn ∙ ap (λ (n : ℕ). F (place n)) back
+    where
+      back : p .0 + (runEnd s set p .0 - p .0) ≡ runEnd s set p .0
+      back = omega (arith, run-beyond)
+
+      turn : (i : ℕ) → i < runEnd s set p .0 - p .0 → F (onBy i p) ≡ F (onBy 1 (onBy i p))
+      turn i h =
+          one (onBy i p) (member i h)
+          (folded-ascii-at s (onBy i p) (omega (arith, run-limit)) (omega (arith, run-limit)) (in-set-low set _ (member i h))
+          (λ e. clash (inSet set 13) (rw (← e) (member i h)) no-cr))
+
+-- a fact about every byte of a set is computed once, over the 128 bytes that a set may have
+unfoldable pub allBelow : ℕ → (ℕ → Bool) → Bool
+allBelow zero test = true
+allBelow (suc n) test = test n && allBelow n test
+
+below : (n : ℕ) (test : ℕ → Bool) → allBelow n test ≡ true → (b : ℕ) → b < n → test b ≡ true
+unfolding allBelow
+below zero test e b h = absurd (omega arith)
+below (suc n) test e b h = go (eqb b n) refl (below n test (parts .1) b)
+  where
+    parts : (test n ≡ true) × (allBelow n test ≡ true)
+    parts = and-both (test n) (allBelow n test) e
+
+    go : (t : Bool) → eqb b n ≡ t → (b < n → test b ≡ true) → test b ≡ true
+    go true q ih = rw (eqb-true b n q) (parts .0)
+    go false q ih = ih (omega (arith, eqb-false b n q))
+
+pub each-of-set : (set : AsciiSet) (test : ℕ → Bool) → allBelow 128 (λ b. not (inSet set b) || test b) ≡ true
+    → (b : ℕ) → inSet set b ≡ true → test b ≡ true
+each-of-set set test all b h = go (inSet set b) h (below 128 (λ (x : ℕ). not (inSet set x) || test x) all b (in-set-low set b h))
+  where
+    go : (t : Bool) → t ≡ true → (not t || test b) ≡ true → test b ≡ true
+    go true e w = w
+    go false e w = absurd (clash false e refl)
