@@ -3,3 +3,5 @@ pub mod Kinds
 pub mod Keywords
 pub mod Comments
 pub mod Tokens
+-- What only inner contracts cite.
+pub mod inner

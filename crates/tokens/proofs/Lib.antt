@@ -1,0 +1,2 @@
+-- The laws of the token rules, for the rooms above.
+pub mod WordLaws
