@@ -147,6 +147,34 @@ module _ (s : List ℕ) (p : Place) where
       go (Ill i) e = ap (λ (j : Sequence). j .at) (folded-ill-at s p i e)
       go (Char c n) e = refl
 
+-- the places of a view go up from p, and stay within len
+abbrev pub Ordered : ℕ → Place → Chars → Type 0
+Ordered len p (end q) = q ≡ p
+Ordered len p (ill i) = i .at ≡ p
+Ordered len p (char q c v) = (q ≡ p) × ((n : Place) × (p .0 < n .0) × (n .0 ≤ len) × Ordered len n v)
+
+by-ordered : (s : List ℕ) (k : ℕ) (p : Place) → Ordered (length s) p (seenBy (foldedAt s) k p)
+unfolding seenBy seenAt
+by-ordered s zero p = refl
+by-ordered s (suc k) p = go (foldedAt s p) refl (by-ordered s k)
+  where
+    go : (r : Read) → foldedAt s p ≡ r → ((n : Place) → Ordered (length s) n (seenBy (foldedAt s) k n))
+        → Ordered (length s) p (seenAt p r (seenBy (foldedAt s) k))
+    go End e ih = refl
+    go (Ill i) e ih = ap (λ (j : Sequence). j .at) (folded-ill-at s p i e)
+    go (Char c n) e ih = let o = folded-onward s p c n e in (refl, (n, o .beyond, o .inside, ih n))
+
+pub folded-ordered : (s : List ℕ) (p : Place) → Ordered (length s) p (foldedFrom s p)
+unfolding foldedFrom
+folded-ordered s p = by-ordered s (suc (length s - p .0)) p
+
+-- a view starts where it is ordered from
+pub ordered-place : (len : ℕ) (p : Place) (v : Chars) → Ordered len p v → placeOf v ≡ p
+unfolding placeOf
+ordered-place len p (end q) h = h
+ordered-place len p (ill i) h = h
+ordered-place len p (char q c v) h = h .0
+
 -- what stays the same from each of m places to the next is the same m places on
 pub strides : {A : Type 0} (F : Place → A) (p : Place) (m : ℕ) → ((i : ℕ) → i < m → F (onBy i p) ≡ F (onBy 1 (onBy i p))) → F p ≡ F (onBy m p)
 strides F p zero on = ap (λ (n : ℕ). F (record { 0 = n })) (sym (add-zero (p .0)))

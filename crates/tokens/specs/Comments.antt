@@ -11,6 +11,7 @@ use Rattle.answers.specs.Places.{inMap}
 use Rattle.chars.specs.declared.Class.{Class}
 use Rattle.chars.specs.declared.Class.the-variants.{Inside, Outside, Unknown}
 use Rattle.chars.specs.View.{Chars, end, ill, char, placeOf}
+use Rattle.tokens.specs.declared.Block.{Block}
 use Rattle.tokens.specs.declared.Ran.{Ran}
 use Rattle.tokens.specs.declared.Ran.the-variants.{To, Stopped}
 
@@ -44,27 +45,22 @@ lineComment (end p) = To p
 lineComment (ill i) = Stopped (IllFormed i)
 lineComment (char p c v) = if eqb c 10 then To (placeOf v) else lineComment v
 
--- Where in a block comment the walk stands: how deep, and whether a `/` or a `*` that no pair has eaten came last.
-pub data Block : Type 0 where
-  other slash star : ℕ → Block
-  closed : Block
-
--- A character that completes no pair.
+-- A character of a block comment that completes no pair.
 unfoldable pub seen : ℕ → ℕ → Block
-seen depth c = if eqb c 47 then slash depth else if eqb c 42 then star depth else other depth
+seen depth c = if eqb c 47 then Block.Slash depth else if eqb c 42 then Block.Star depth else Block.Other depth
 
 -- What a character does: `/*` goes one deeper, `*/` one up, and out of the comment where that was the outermost.
 unfoldable pub blockTurn : Block → ℕ → Block
-blockTurn (other depth) c = seen depth c
-blockTurn (slash depth) c = if eqb c 42 then other (depth + 1) else seen depth c
-blockTurn (star depth) c = if eqb c 47 then (if eqb depth 1 then closed else other (depth - 1)) else seen depth c
-blockTurn closed c = closed
+blockTurn (Block.Other depth) c = seen depth c
+blockTurn (Block.Slash depth) c = if eqb c 42 then Block.Other (depth + 1) else seen depth c
+blockTurn (Block.Star depth) c = if eqb c 47 then (if eqb depth 1 then Block.Closed else Block.Other (depth - 1)) else seen depth c
+blockTurn Block.Closed c = Block.Closed
 
 unfoldable pub blockOn : Block → Chars → (Block → Ran) → Ran
-blockOn (other depth) v next = next (other depth)
-blockOn (slash depth) v next = next (slash depth)
-blockOn (star depth) v next = next (star depth)
-blockOn closed v next = To (placeOf v)
+blockOn (Block.Other depth) v next = next (Block.Other depth)
+blockOn (Block.Slash depth) v next = next (Block.Slash depth)
+blockOn (Block.Star depth) v next = next (Block.Star depth)
+blockOn Block.Closed v next = To (placeOf v)
 
 -- Behind `/*`: 8 at the comment's start q where the text ends first.
 unfoldable pub blockComment : Position → Block → Chars → Ran

@@ -16,6 +16,7 @@ use Rattle.chars.specs.Classes.{keylikeStart, keylikeContinue}
 use Rattle.strings.specs.declared.Literal.{Literal}
 use Rattle.strings.specs.declared.Literal.the-variants.{Closed, Refused as Refused′}
 use Rattle.strings.specs.Strings.{stringLiteral}
+use Rattle.tokens.specs.declared.Block.{Block}
 use Rattle.tokens.specs.declared.Ran.{Ran}
 use Rattle.tokens.specs.declared.Ran.the-variants.{To, Stopped}
 use Rattle.tokens.specs.declared.Lexed.{Lexed}
@@ -26,7 +27,7 @@ use Rattle.tokens.specs.declared.Raw.{Raw}
 use Rattle.tokens.specs.declared.Raw.the-variants.{Token as Found, End, Refused}
 use Rattle.tokens.specs.declared.Token.{Token}
 use Rattle.tokens.specs.Keywords.{keyword}
-use Rattle.tokens.specs.Comments.{blank, digit, run, lineComment, other, blockComment}
+use Rattle.tokens.specs.Comments.{blank, digit, run, lineComment, blockComment}
 
 -- The rule that a first character calls for.
 unfoldable pub rules : List (Row Rule)
@@ -72,7 +73,7 @@ slashRule o p (end n) = As Token.Slash n
 slashRule o p (ill i) = Not (IllFormed i)
 slashRule o p (char n c v) =
     if eqb c 47 then asToken Token.Comment (lineComment v)
-    else if eqb c 42 then asToken Token.Comment (blockComment (inMap o p) (other 1) v)
+    else if eqb c 42 then asToken Token.Comment (blockComment (inMap o p) (Block.Other 1) v)
     else As Token.Slash n
 
 -- `-`: RArrow if `>` follows, else Minus.

@@ -1,4 +1,6 @@
 //! One raw token at a plain place of a text: the choice of the rule by the first character, runs, comments, keywords, strings.
+mod comments;
+mod runs;
 mod words;
 
 use answers::Place;
@@ -99,6 +101,21 @@ pub enum Raw {
     Token(Token, Span, Place),
     End,
     Refused(Refusal),
+}
+
+// The runs that rules take: of blanks, of digits, and of keylike continuations.
+pub enum Run {
+    Blanks,
+    Digits,
+    Keylike,
+}
+
+// Where in a block comment the walk stands: how deep, and whether a `/` or a `*` that no pair has eaten came last.
+pub enum Block {
+    Other(u32),
+    Slash(u32),
+    Star(u32),
+    Closed,
 }
 
 // Where a run or a comment ends: the place where the rest begins, or a refusal.

@@ -1,0 +1,49 @@
+use Rattle.tokens.specs.inner.Runs.{passedBy}
+use borrow.Author.Needs.{needs}
+use Rattle.tokens.proofs.comments.passed.Statement.{statement}
+use Rattle.tokens.proofs.comments.passed.Tie as tie
+
+enum-told : tie.Need-enum-told
+enum-told c = search needs
+
+run-end-requires : tie.Need-run-end-requires
+run-end-requires c κs = search needs
+
+enum-told-2 : tie.Need-enum-told-2
+enum-told-2 c = search needs
+
+enum-told-3 : tie.Need-enum-told-3
+enum-told-3 c = search needs
+
+enum-told-4 : tie.Need-enum-told-4
+enum-told-4 c = search needs
+
+returns : tie.Need-returns
+unfolding passedBy
+returns c = rw (c .before .enum-told .given .1) (c .run-end .ensures)
+
+returns-2 : tie.Need-returns-2
+unfolding passedBy
+returns-2 c = rw (c .enum-told2 .given .1)
+
+returns-3 : tie.Need-returns-3
+unfolding passedBy
+returns-3 c = rw (c .enum-told3 .given .1)
+
+returns-4 : tie.Need-returns-4
+unfolding passedBy
+returns-4 c = rw (c .enum-told4 .given .1)
+
+pub passed-spec : {M : Type 1} → statement M
+passed-spec =
+    tie.close
+    (tie.spec
+    enum-told
+    run-end-requires
+    enum-told-2
+    enum-told-3
+    enum-told-4
+    returns
+    returns-2
+    returns-3
+    returns-4)
