@@ -1,11 +1,13 @@
 //! One raw token at a plain place of a text: the choice of the rule by the first character, runs, comments, keywords, strings.
 mod comments;
+mod rules;
 mod runs;
 mod words;
 
 use answers::Place;
 use answers::Refusal;
 use answers::Span;
+pub use rules::rule_of;
 pub use words::keyword;
 ghost use mathlib.Core.Path.{_≡_};
 ghost use Rattle.tokens.specs.Kinds.{kindOf};

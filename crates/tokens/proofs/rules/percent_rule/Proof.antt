@@ -1,0 +1,81 @@
+use mathlib.Core.Path.{sym, _∙_}
+use Rattle.chars.proofs.ViewLaws.{folded-end, folded-ill, folded-char}
+use Rattle.tokens.specs.Tokens.{percentRule, classedBy}
+use Rattle.tokens.specs.inner.Runs.{classOf}
+use borrow.Author.Needs.{needs}
+use Rattle.tokens.proofs.rules.percent_rule.Statement.{statement}
+use Rattle.tokens.proofs.rules.percent_rule.Tie as tie
+
+folded-at-requires : tie.Need-folded-at-requires
+folded-at-requires c κs = search needs
+
+enum-told : tie.Need-enum-told
+enum-told c = search needs
+
+enum-known-ill : tie.Need-enum-known-ill
+enum-known-ill c = search needs
+
+enum-known-c : tie.Need-enum-known-c
+enum-known-c c = search needs
+
+is-keylike-start-requires : tie.Need-is-keylike-start-requires
+is-keylike-start-requires c κs = search needs
+
+enum-told-2 : tie.Need-enum-told-2
+enum-told-2 c = search needs
+
+run-from-requires : tie.Need-run-from-requires
+run-from-requires c κs = search needs
+
+as-token-requires : tie.Need-as-token-requires
+as-token-requires c κs = search needs
+
+enum-told-3 : tie.Need-enum-told-3
+enum-told-3 c = search needs
+
+enum-told-4 : tie.Need-enum-told-4
+enum-told-4 c = search needs
+
+in-map-requires : tie.Need-in-map-requires
+in-map-requires c κs = search needs
+
+returns : tie.Need-returns
+unfolding percentRule
+returns c = rw (folded-end _ _ (sym (c .before .before .folded-at .ensures) ∙ c .enum-told .given .1))
+
+returns-2 : tie.Need-returns-2
+unfolding percentRule
+returns-2 c = rw (folded-ill _ _ _ (sym (c .before .before .before .folded-at .ensures) ∙ c .before .ill .given .1))
+
+returns-3 : tie.Need-returns-3
+unfolding percentRule classedBy classOf
+returns-3 c = rw (folded-char _ _ _ _ (sym (c .before .before .before .before .before .before .before .before .folded-at .ensures) ∙ c .before .before .before .before .before .before .c .given .1), ← c .before .before .before .before .is-keylike-start .ensures, c .before .before .enum-told2 .given .1, ← c .before .run-from .ensures) (c .as-token .ensures)
+
+returns-4 : tie.Need-returns-4
+unfolding percentRule classedBy
+returns-4 c = rw (folded-char _ _ _ _ (sym (c .before .before .before .before .before .before .folded-at .ensures) ∙ c .before .before .before .before .c .given .1), ← c .before .before .is-keylike-start .ensures, c .enum-told3 .given .1)
+
+returns-5 : tie.Need-returns-5
+unfolding percentRule classedBy
+returns-5 c = rw (folded-char _ _ _ _ (sym (c .before .before .before .before .before .before .before .folded-at .ensures) ∙ c .before .before .before .before .before .c .given .1), ← c .before .before .before .is-keylike-start .ensures, c .before .enum-told4 .given .1, ← c .in-map .ensures)
+
+pub percent-rule-spec : {M : Type 1} → statement M
+percent-rule-spec =
+    tie.close
+    (tie.spec
+    folded-at-requires
+    enum-told
+    enum-known-ill
+    enum-known-c
+    is-keylike-start-requires
+    enum-told-2
+    run-from-requires
+    as-token-requires
+    enum-told-3
+    enum-told-4
+    in-map-requires
+    returns
+    returns-2
+    returns-3
+    returns-4
+    returns-5)

@@ -1,0 +1,141 @@
+//! One raw token: the rule that its first character calls for, and what the rule makes of it.
+use crate::Lexed;
+use crate::Ran;
+use crate::Raw;
+use crate::Rule;
+use crate::Run;
+use crate::Token;
+use crate::comments::block_comment;
+use crate::comments::line_comment;
+use crate::runs::run_from;
+use crate::words::keyword;
+use answers::Place;
+use answers::Refusal;
+use answers::Span;
+use chars::Class;
+use chars::Read;
+ghost use mathlib.Core.Path.{_≡_};
+ghost use Prim.Native.Nat.{_<_, _≤_};
+ghost use lib.ListN.{length};
+ghost use Rattle.answers.specs.declared.Place.{Place};
+ghost use Rattle.chars.specs.View.{foldedFrom};
+ghost use Rattle.chars.specs.Classes.{keylikeStart};
+ghost use Rattle.tokens.specs.Comments.{run};
+ghost use Rattle.tokens.specs.Tokens.{ruleOf, asToken, slashRule, dashRule, percentRule, asWord, classedBy, lexedBy, spanned, rawAt};
+ghost use Rattle.tokens.specs.inner.Runs.{classOf};
+
+// The rule that a first character calls for: one choice over character numbers and ranges.
+pub fn rule_of(c: u32) -> Rule
+    ensures { λ r. ⌜ r ≡ ruleOf c ⌝ }
+{
+    match c {
+        0x09..=0x0A => Rule::Blanks,
+        0x20 => Rule::Blanks,
+        0x22 => Rule::Quote,
+        0x25 => Rule::Percent,
+        0x28 => Rule::Mark(Token::LeftParen),
+        0x29 => Rule::Mark(Token::RightParen),
+        0x2A => Rule::Mark(Token::Star),
+        0x2B => Rule::Mark(Token::Plus),
+        0x2C => Rule::Mark(Token::Comma),
+        0x2D => Rule::Dash,
+        0x2E => Rule::Mark(Token::Period),
+        0x2F => Rule::Slash,
+        0x30..=0x39 => Rule::Digits,
+        0x3A => Rule::Mark(Token::Colon),
+        0x3B => Rule::Mark(Token::Semicolon),
+        0x3C => Rule::Mark(Token::LessThan),
+        0x3D => Rule::Mark(Token::Equals),
+        0x3E => Rule::Mark(Token::GreaterThan),
+        0x40 => Rule::Mark(Token::At),
+        0x41..=0x5A => Rule::Word,
+        0x5F => Rule::Word,
+        0x61..=0x7A => Rule::Word,
+        0x7B => Rule::Mark(Token::LeftBrace),
+        0x7D => Rule::Mark(Token::RightBrace),
+        _ => Rule::Classed,
+    }
+}
+
+// A run or a comment as a token.
+fn as_token(kind: Token, ran: Ran) -> Lexed
+    ensures { λ r. ⌜ r ≡ asToken kind ran ⌝ }
+{
+    match ran {
+        Ran::To(end) => Lexed::As(kind, end),
+        Ran::Stopped(refusal) => Lexed::Not(refusal),
+    }
+}
+
+// `/` at a place, with the next place behind it: a comment, or Slash.
+fn slash_rule(text: &[u8], offset: u32, at: Place, next: Place) -> Lexed
+    ensures { λ r. ⌜ r ≡ slashRule offset at (foldedFrom (now (text .entry)) next) ⌝ }
+{
+    match chars::folded_at(text, next) {
+        Read::End => Lexed::As(Token::Slash, next),
+        Read::Ill(ill) => Lexed::Not(Refusal::IllFormed(ill)),
+        Read::Char(c, behind) => {
+            if c == 47 {
+                return as_token(Token::Comment, line_comment(text, behind));
+            }
+            if c == 42 {
+                let start = answers::in_map(offset, at);
+                return as_token(Token::Comment, block_comment(text, start, behind));
+            }
+            Lexed::As(Token::Slash, next)
+        }
+    }
+}
+
+// `-`, with the next place behind it: RArrow if `>` follows, else Minus.
+fn dash_rule(text: &[u8], next: Place) -> Lexed
+    ensures { λ r. ⌜ r ≡ dashRule (foldedFrom (now (text .entry)) next) ⌝ }
+{
+    match chars::folded_at(text, next) {
+        Read::End => Lexed::As(Token::Minus, next),
+        Read::Ill(ill) => Lexed::Not(Refusal::IllFormed(ill)),
+        Read::Char(c, behind) => {
+            if c == 62 {
+                return Lexed::As(Token::RArrow, behind);
+            }
+            Lexed::As(Token::Minus, next)
+        }
+    }
+}
+
+// `%`, with the next place behind it: with a keylike start and the longest run of continuations, or alone.
+fn percent_rule(text: &[u8], offset: u32, next: Place) -> Lexed
+    ensures { λ r. ⌜ r ≡ percentRule offset (foldedFrom (now (text .entry)) next) ⌝ }
+{
+    match chars::folded_at(text, next) {
+        Read::End => Lexed::As(Token::ExplicitId, next),
+        Read::Ill(ill) => Lexed::Not(Refusal::IllFormed(ill)),
+        Read::Char(c, behind) => match chars::is_keylike_start(c) {
+            Class::Inside => {
+                as_token(
+                    Token::ExplicitId,
+                    run_from(text, offset, behind, Run::Keylike),
+                )
+            }
+            Class::Outside => Lexed::As(Token::ExplicitId, next),
+            Class::Unknown => {
+                Lexed::Not(Refusal::Unclassified(answers::in_map(offset, next), c))
+            }
+        },
+    }
+}
+
+// The word from `at` on whose first character ends before `next`: its end gives its bytes, and those its kind.
+fn word_rule(text: &[u8], offset: u32, at: Place, next: Place) -> Lexed
+    requires { ⌜ (at .0 ≤ next .0) × (next .0 ≤ length (now text)) ⌝ }
+    ensures { λ r. ⌜ r ≡ asWord (now (text .entry)) at (run (classOf Run.Keylike) offset (foldedFrom (now (text .entry)) next)) ⌝ }
+{
+    match run_from(text, offset, next, Run::Keylike) {
+        Ran::To(end) => {
+            let from = at.0 as usize;
+            let to = end.0 as usize;
+            Lexed::As(keyword(&text[from..to]), end)
+        }
+        Ran::Stopped(refusal) => Lexed::Not(refusal),
+    }
+}
