@@ -18,6 +18,7 @@ use Rattle.chars.specs.View.{foldedAt}
 use Rattle.chars.specs.inner.Runs.{inSet, stopsAt, runEnd}
 use Rattle.chars.specs.declared.AsciiSet.{AsciiSet}
 use Rattle.chars.specs.declared.Read.the-variants.{Char}
+use Rattle.chars.proofs.Utf8Laws.{ascii-at}
 use Rattle.chars.proofs.ViewLaws.{folded-ascii-at, strides}
 
 -- the bytes of a set are below 0x80
@@ -49,20 +50,29 @@ module _ (s : List ℕ) (set : AsciiSet) (p : Place) where
   unfolding runEnd byteAt
   member i h = not-false _ (none-before (stopsAt s set) (min (length s) cap - p .0) (p .0) (p .0 + i) (omega arith) (omega arith))
 
-  -- THE LAW: what a byte of the set does not change, the whole run does not change
-  pub run-strides : {A : Type 0} (F : Place → A) → inSet set 13 ≡ false
-      → ((q : Place) → inSet set (byteAt s q) ≡ true → foldedAt s q ≡ Char (byteAt s q) (onBy 1 q) → F q ≡ F (onBy 1 q))
-      → F p ≡ F (runEnd s set p)
-  run-strides F no-cr one = strides F p (runEnd s set p .0 - p .0) turn ∙ ap (λ (n : ℕ). F (place n)) back
+  -- THE LAW: what no byte of the set changes, the whole run does not change
+  run-steps : {A : Type 0} (F : Place → A)
+      → ((q : Place) → inSet set (byteAt s q) ≡ true → q .0 < length s → q .0 < cap → F q ≡ F (onBy 1 q)) → F p ≡ F (runEnd s set p)
+  run-steps F one = strides F p (runEnd s set p .0 - p .0) turn ∙ ap (λ (n : ℕ). F (place n)) back
     where
       back : p .0 + (runEnd s set p .0 - p .0) ≡ runEnd s set p .0
       back = omega (arith, run-beyond)
 
       turn : (i : ℕ) → i < runEnd s set p .0 - p .0 → F (onBy i p) ≡ F (onBy 1 (onBy i p))
-      turn i h =
-          one (onBy i p) (member i h)
-          (folded-ascii-at s (onBy i p) (omega (arith, run-limit)) (omega (arith, run-limit)) (in-set-low set _ (member i h))
-          (λ e. clash (inSet set 13) (rw (← e) (member i h)) no-cr))
+      turn i h = one (onBy i p) (member i h) (omega (arith, run-limit)) (omega (arith, run-limit))
+
+  -- with each byte as the character that it is, as the text stands
+  pub run-strides-plain : {A : Type 0} (F : Place → A)
+      → ((q : Place) → inSet set (byteAt s q) ≡ true → charAt s q ≡ Char (byteAt s q) (onBy 1 q) → F q ≡ F (onBy 1 q))
+      → F p ≡ F (runEnd s set p)
+  run-strides-plain F one = run-steps F (λ q m h k. one q m (ascii-at s q h k (in-set-low set _ m)))
+
+  -- and folded, where the set has no carriage return
+  pub run-strides : {A : Type 0} (F : Place → A) → inSet set 13 ≡ false
+      → ((q : Place) → inSet set (byteAt s q) ≡ true → foldedAt s q ≡ Char (byteAt s q) (onBy 1 q) → F q ≡ F (onBy 1 q))
+      → F p ≡ F (runEnd s set p)
+  run-strides F no-cr one =
+      run-steps F (λ q m h k. one q m (folded-ascii-at s q h k (in-set-low set _ m) (λ e. clash (inSet set 13) (rw (← e) m) no-cr)))
 
 -- a fact about every byte of a set is computed once, over the 128 bytes that a set may have
 unfoldable pub allBelow : ℕ → (ℕ → Bool) → Bool

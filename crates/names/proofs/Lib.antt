@@ -1,0 +1,2 @@
+-- The laws of identifiers.
+pub mod NameLaws

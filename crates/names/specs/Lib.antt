@@ -1,0 +1,4 @@
+-- Identifiers.
+pub mod Names
+-- What only inner contracts cite.
+pub mod inner
