@@ -1,8 +1,13 @@
 //! Identifiers: plain and explicit, as a part of the caller's own text.
 mod parts;
+mod spans;
 
 use answers::Place;
 use answers::Refusal;
+pub use spans::parse_explicit_id;
+pub use spans::parse_id;
+pub use spans::validate_explicit_id;
+pub use spans::validate_id;
 
 // What a character is to an identifier.
 pub enum Letter {
