@@ -1,0 +1,25 @@
+//! Opening a text, and the steps over its tokens on a plain place: each answers what it found and the place where the cursor then stands.
+use answers::Place;
+use answers::Refusal;
+use answers::Span;
+use tokens::Token;
+
+// What opening answers: the place where the cursor stands, or the refusal.
+pub enum Opened {
+    At(Place),
+    Refused(Refusal),
+}
+
+// What a step answers: a token with its span; the end of the text; `No` from eat alone, where the next token is another; or a refusal.
+pub enum Step {
+    Token(Token, Span),
+    End,
+    No,
+    Refused(Refusal),
+}
+
+// A step's answer, and the place where the cursor then stands.
+pub struct Moved {
+    pub step: Step,
+    pub at: Place,
+}
