@@ -7,8 +7,8 @@ use mathlib.Core.Logic.{_⊎_, inl, inr, ⊎-elim}
 use native.Mathlib.Omega.{arith}
 use native.Mathlib.Nat.{add-zero}
 use lib.Dec.{leb}
-use lib.ListN.{length, getD, take, drop, length-append, drop-of-length-le, take-append-drop}
-use lib.Seq.{getD-append-add, drop-cons, drop-drop}
+use lib.ListN.{length, getD, take, drop, length-append, length-take, length-drop, drop-of-length-le, take-append-drop}
+use lib.Seq.{getD-append-add, getD-take, getD-drop, drop-cons, drop-drop}
 use borrow.Author.Tests.{lt-leb, leb-true, leb-false}
 use Rattle.terms.specs.Terms.{if_then_else_, within, said}
 use Rattle.terms.proofs.TestLaws.{within-yes, within-true, and-both}
@@ -19,14 +19,14 @@ use Rattle.answers.specs.Places.{place}
 use Rattle.answers.proofs.CapsLaws.{refused-not}
 use Rattle.answers.specs.Caps.{cap}
 use Rattle.chars.specs.Utf8.{byteAt, onBy, leads, leadOf, isTail, illAt, charBy, charAt, isScalar, encode}
-use Rattle.chars.specs.View.{Chars, end, ill, char, charsFrom}
+use Rattle.chars.specs.View.{Chars, end, ill, char, charsFrom, foldedAt}
 use Rattle.chars.specs.Screening.{wellFormed}
 use Rattle.chars.specs.declared.Read.{Read}
 use Rattle.chars.specs.declared.Read.the-variants.{End, Ill, Char}
 use Rattle.chars.specs.declared.Lead.{Lead}
 use Rattle.chars.specs.declared.Lead.the-variants.{Alone, Two, Three, Four, Never}
 use Rattle.chars.proofs.Utf8Laws.{Onward, onward, end-at, chosen, scalar-is, scalar-at-most, lawful, tail-bounds, two-in, three-in, four-in, char-is, char-not-end, char-not-ill}
-use Rattle.chars.proofs.ViewLaws.{chars-end, chars-ill, chars-char}
+use Rattle.chars.proofs.ViewLaws.{chars-end, chars-ill, chars-char, folded-onward, folded-is}
 use Rattle.chars.proofs.EncodeLaws.{encode-one, encode-two, encode-three, encode-four}
 
 -- what the first bytes of the encodings start, and that the second byte is in the range that the first gives
@@ -210,6 +210,33 @@ encode-read s p c n e = both s p c n (onward s p c n e) e
 pub one-encoding : (s t : List ℕ) (p q : Place) (c : ℕ) (n m : Place) → charAt s p ≡ Char c n → charAt t q ≡ Char c m
     → take (n .0 - p .0) (drop (p .0) s) ≡ take (m .0 - q .0) (drop (q .0) t)
 one-encoding s t p q c n m d e = encode-read s p c n d ∙ sym (encode-read t q c m e)
+
+-- a character has the bytes that it is read from; a folded one has no more
+module _ (s : List ℕ) (p : Place) (c : ℕ) (n : Place) where
+  pub read-width : charAt s p ≡ Char c n → p .0 + length (encode c) ≡ n .0
+  read-width e =
+      let o = onward s p c n e in
+      omega (arith, simp (length-take, length-drop) at (ap length (encode-read s p c n e)))
+
+  pub folded-width : foldedAt s p ≡ Char c n → p .0 + length (encode c) ≤ n .0
+  folded-width e = ⊎-elim newline (λ h. omega (arith, read-width h)) (folded-is s p c n e)
+    where
+      newline : c ≡ 10 → p .0 + length (encode c) ≤ n .0
+      newline h =
+          let o = folded-onward s p c n e in
+          omega (arith, ap length (encode-one c (omega arith)))
+
+  -- the byte i places on is the character's own, and one below 0x80 is that byte
+  pub read-byte : charAt s p ≡ Char c n → (i : ℕ) → p .0 + i < n .0 → byteAt s (onBy i p) ≡ getD (encode c) i 0
+  unfolding byteAt
+  read-byte e i l =
+      let j : i < n .0 - p .0 = omega arith in
+      rw (← encode-read s p c n e, getD-take (n .0 - p .0) (drop (p .0) s) i 0 j, getD-drop)
+
+  pub ascii-byte : charAt s p ≡ Char c n → c ≤ 0x7F → byteAt s p ≡ c
+  ascii-byte e h =
+      let o = onward s p c n e in
+      ap (λ (k : ℕ). byteAt s (place k)) (sym (add-zero (p .0))) ∙ read-byte e 0 (omega arith) ∙ rw (encode-one c h)
 
 -- the bytes of the characters of a view
 pub encodeAll : Chars → List ℕ

@@ -4,6 +4,7 @@ use Prim.Native.Nat.{ℕ, zero, suc, _≤_, _<_, _+_, _-_}
 use mathlib.Core.Path.{_≡_, refl, sym, ap, _∙_}
 use mathlib.Core.Bool.{Bool, true, false, _&&_}
 use mathlib.Core.List.{List}
+use mathlib.Core.Logic.{_⊎_, inl, inr}
 use native.Mathlib.Nat.{add-zero}
 use native.Mathlib.Omega.{arith}
 use lib.Dec.{eqb}
@@ -90,6 +91,26 @@ module _ (s : List ℕ) (p : Place) where
   pub folded-ascii-at : p .0 < length s → p .0 < cap → byteAt s p < 0x80 → (byteAt s p ≡ 13 → ⊥) → foldedAt s p ≡ Char (byteAt s p) (onBy 1 p)
   unfolding foldedAt folded
   folded-ascii-at i k h d = rw (ascii-at s p i k h, ne-eqb _ _ d)
+
+-- only a carriage return reads otherwise so, and only as a newline
+module _ (s : List ℕ) (p : Place) (c : ℕ) (n : Place) where
+  pub as-folded : charAt s p ≡ Char c n → (c ≡ 13 → ⊥) → foldedAt s p ≡ Char c n
+  unfolding foldedAt folded
+  as-folded e d = rw (e, ne-eqb _ _ d)
+
+  pub folded-is : foldedAt s p ≡ Char c n → (c ≡ 10) ⊎ (charAt s p ≡ Char c n)
+  unfolding foldedAt folded
+  folded-is e = go (charAt s p) refl e
+    where
+      fold : (t : Bool) (d : ℕ) (m : Place) → charAt s p ≡ Char d m → (if t then Char 10 (onBy 1 m) else Char d m) ≡ Char c n
+          → (c ≡ 10) ⊎ (charAt s p ≡ Char c n)
+      fold true d m h e = inl (sym (char-is e .0))
+      fold false d m h e = inr (h ∙ e)
+
+      go : (r : Read) → charAt s p ≡ r → folded s r ≡ Char c n → (c ≡ 10) ⊎ (charAt s p ≡ Char c n)
+      go End h e = absurd (char-not-end e)
+      go (Ill i) h e = absurd (char-not-ill e)
+      go (Char d m) h e = fold (eqb d 13 && eqb (byteAt s m) 10) d m h e
 
 -- of any way `at` to read that goes on with each character and stays within the text
 module _ (at : Place → Read) (s : List ℕ) (on : (p : Place) (c : ℕ) (n : Place) → at p ≡ Char c n → Onward s p n) where

@@ -46,7 +46,7 @@ pub fn encode(c: u32, buffer: &mut [u8]) -> usize
 }
 
 // How many bytes a character has.
-fn width(c: u32) -> usize
+pub fn width(c: u32) -> usize
     ensures { λ r. ⌜ r ≡ length (Utf8.encode c) ⌝ }
 {
     if c <= 0x7F {

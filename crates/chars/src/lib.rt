@@ -15,6 +15,7 @@ pub use classes::xid_continue;
 pub use classes::xid_start;
 pub use encoding::encode;
 pub use encoding::is_scalar;
+pub use encoding::width;
 pub use reading::byte_at;
 pub use reading::folded_at;
 pub use reading::lead_of;

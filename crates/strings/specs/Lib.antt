@@ -1,3 +1,5 @@
 -- The string rule, and decoding.
 pub mod Strings
 pub mod Decoding
+-- What only inner contracts cite.
+pub mod inner

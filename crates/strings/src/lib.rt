@@ -1,6 +1,13 @@
 //! String literals: the string rule from behind the opening quote on, and decoding into a lent buffer.
+mod checking;
+mod decoding;
+mod rule;
+mod turns;
+
 use answers::Place;
 use answers::Refusal;
+pub use decoding::string_literal;
+pub use rule::expect_string_literal;
 
 // Where in a string the walk stands.
 pub enum Inside {
@@ -42,4 +49,26 @@ pub enum Literal {
 pub enum Decoded {
     Value(u32),
     Refused(Refusal),
+}
+
+// A character that has to stand at a place, with the next place; or the refusal, where the text ends or is ill-formed there.
+enum Expected {
+    Char(u32, Place),
+    Fail(Refusal),
+}
+
+// What stands in a string between characters, by one character or by a whole escape:
+// what it adds and the place behind it, the closing quote and the place behind it, or a refusal.
+enum Element {
+    Adds(More, Place),
+    Close(Place),
+    Fail(Refusal),
+}
+
+// What is known of the gathered bytes: they are well-formed; a sequence is in progress (where it starts, the range of its next byte, and how many bytes it lacks);
+// or the first ill-formed sequence starts there.
+enum Seen {
+    Well,
+    Part(u32, u32, u32, u32),
+    Ill(u32),
 }

@@ -36,7 +36,17 @@ module _ (test : ℕ → Bool) where
       let e : n - i ≡ 0 = omega arith in
       rw e
 
-  -- what the answer says: nothing before it passes, it passes where it is below the end, and it is never beyond the end
+  -- past any that do not pass
+  pub first-skip : (k i n : ℕ) → i + k ≤ n → ((j : ℕ) → i ≤ j → j < i + k → test j ≡ false) → first test i (n - i) ≡ first test (i + k) (n - (i + k))
+  first-skip zero i n l h =
+      let e : i + 0 ≡ i = omega arith in
+      rw e
+  first-skip (suc k) i n l h =
+      let e : i + 1 + k ≡ i + suc k = omega arith in
+      first-miss i n (omega arith) (h i (omega arith) (omega arith))
+      ∙ rw e at (first-skip k (i + 1) n (omega arith) (λ j a b. h j (omega arith) (omega arith)))
+
+  -- what the answer says: nothing before it passes, it passes where it is below the end, and it is never before the start or beyond the end
   pub none-before : (n i k : ℕ) → i ≤ k → k < first test i n → test k ≡ false
   unfolding first
   none-before zero i k a b = absurd (omega arith)
@@ -59,11 +69,11 @@ module _ (test : ℕ → Bool) where
 
   pub first-from : (n i : ℕ) → i ≤ first test i n
   unfolding first
-  first-from zero i = le-refl i
+  first-from zero i = omega arith
   first-from (suc n) i = go (test i) (first-from n (suc i))
     where
       go : (t : Bool) → suc i ≤ first test (suc i) n → i ≤ (if t then i else first test (suc i) n)
-      go true h = le-refl i
+      go true h = omega arith
       go false h = omega arith
 
   pub first-passes : (n i : ℕ) → first test i n < i + n → test (first test i n) ≡ true
