@@ -1,7 +1,15 @@
 //! Opening a text, and the steps over its tokens on a plain place: each answers what it found and the place where the cursor then stands.
+mod opening;
+mod stepping;
+
 use answers::Place;
 use answers::Refusal;
 use answers::Span;
+pub use opening::open;
+pub use stepping::eat_at;
+pub use stepping::expect_at;
+pub use stepping::next_at;
+pub use stepping::next_raw_at;
 use tokens::Token;
 
 // What opening answers: the place where the cursor stands, or the refusal.

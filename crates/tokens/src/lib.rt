@@ -7,6 +7,7 @@ mod words;
 use answers::Place;
 use answers::Refusal;
 use answers::Span;
+pub use rules::next_raw;
 pub use rules::rule_of;
 pub use words::keyword;
 ghost use mathlib.Core.Path.{_≡_};

@@ -14,14 +14,13 @@ use answers::Refusal;
 use answers::Span;
 use chars::Class;
 use chars::Read;
+use strings::Literal;
 ghost use mathlib.Core.Path.{_≡_};
 ghost use Prim.Native.Nat.{_<_, _≤_};
 ghost use lib.ListN.{length};
-ghost use Rattle.answers.specs.declared.Place.{Place};
 ghost use Rattle.chars.specs.View.{foldedFrom};
-ghost use Rattle.chars.specs.Classes.{keylikeStart};
 ghost use Rattle.tokens.specs.Comments.{run};
-ghost use Rattle.tokens.specs.Tokens.{ruleOf, asToken, slashRule, dashRule, percentRule, asWord, classedBy, lexedBy, spanned, rawAt};
+ghost use Rattle.tokens.specs.Tokens.{ruleOf, asToken, slashRule, dashRule, percentRule, asWord, asString, lexedBy, spanned, rawAt};
 ghost use Rattle.tokens.specs.inner.Runs.{classOf};
 
 // The rule that a first character calls for: one choice over character numbers and ranges.
@@ -137,5 +136,73 @@ fn word_rule(text: &[u8], offset: u32, at: Place, next: Place) -> Lexed
             Lexed::As(keyword(&text[from..to]), end)
         }
         Ran::Stopped(refusal) => Lexed::Not(refusal),
+    }
+}
+
+// A first character that its class decides on: a word, 7 or 9.
+fn classed_rule(text: &[u8], offset: u32, at: Place, c: u32, next: Place) -> Lexed
+    requires { ⌜ (at .0 ≤ next .0) × (next .0 ≤ length (now text)) ⌝ }
+    ensures { λ r. ⌜ r ≡ lexedBy Rule.Classed (now (text .entry)) offset at c (foldedFrom (now (text .entry)) next) ⌝ }
+{
+    match chars::is_keylike_start(c) {
+        Class::Inside => word_rule(text, offset, at, next),
+        Class::Outside => Lexed::Not(Refusal::Unexpected(answers::in_map(offset, at), c)),
+        Class::Unknown => Lexed::Not(Refusal::Unclassified(answers::in_map(offset, at), c)),
+    }
+}
+
+// A string's end.
+fn as_string(literal: Literal) -> Lexed
+    ensures { λ r. ⌜ r ≡ asString literal ⌝ }
+{
+    match literal {
+        Literal::Closed(end, _) => Lexed::As(Token::StringLiteral, end),
+        Literal::Refused(refusal) => Lexed::Not(refusal),
+    }
+}
+
+// The token at a place, whose first character ends before `next`, by the rule that this character calls for.
+fn lexed_by(text: &[u8], offset: u32, at: Place, c: u32, next: Place) -> Lexed
+    requires { ⌜ (at .0 ≤ next .0) × (next .0 ≤ length (now text)) ⌝ }
+    ensures { λ r. ⌜ r ≡ lexedBy (ruleOf c) (now (text .entry)) offset at c (foldedFrom (now (text .entry)) next) ⌝ }
+{
+    match rule_of(c) {
+        Rule::Blanks => as_token(Token::Whitespace, run_from(text, offset, next, Run::Blanks)),
+        Rule::Slash => slash_rule(text, offset, at, next),
+        Rule::Dash => dash_rule(text, next),
+        Rule::Percent => percent_rule(text, offset, next),
+        Rule::Quote => {
+            let start = answers::in_map(offset, at);
+            as_string(strings::expect_string_literal(text, offset, start, next))
+        }
+        Rule::Digits => as_token(Token::Integer, run_from(text, offset, next, Run::Digits)),
+        Rule::Word => word_rule(text, offset, at, next),
+        Rule::Mark(kind) => Lexed::As(kind, next),
+        Rule::Classed => classed_rule(text, offset, at, c, next),
+    }
+}
+
+// A token with its span.
+fn spanned_by(offset: u32, at: Place, lexed: Lexed) -> Raw
+    ensures { λ r. ⌜ r ≡ spanned offset at lexed ⌝ }
+{
+    match lexed {
+        Lexed::As(kind, end) => {
+            let start = answers::in_map(offset, at);
+            let behind = answers::in_map(offset, end);
+            Raw::Token(kind, Span { start, end: behind }, end)
+        }
+        Lexed::Not(refusal) => Raw::Refused(refusal),
+    }
+}
+
+// The raw token at a place of a text that stands at this offset in the map.
+pub fn next_raw(text: &[u8], offset: u32, at: Place) -> Raw
+    ensures { λ r. ⌜ r ≡ rawAt (now (text .entry)) offset at ⌝ }
+{
+    match chars::folded_at(text, at) {
+        Read::End => Raw::End,
+        Read::Ill(ill) => Raw::Refused(Refusal::IllFormed(ill)),
+        Read::Char(c, next) => spanned_by(offset, at, lexed_by(text, offset, at, c, next)),
     }
 }
