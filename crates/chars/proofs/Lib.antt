@@ -5,3 +5,4 @@ pub mod ScreeningLaws
 pub mod EncodeLaws
 pub mod RoundTrip
 pub mod RunLaws
+pub mod LocalLaws

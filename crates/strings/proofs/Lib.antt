@@ -9,3 +9,4 @@ pub mod WritingLaws
 pub mod PouringLaws
 pub mod DecodingLaws
 pub mod Cases
+pub mod LocalLaws

@@ -2,3 +2,4 @@
 pub mod WordLaws
 pub mod RunLaws
 pub mod CommentLaws
+pub mod TokenLaws
