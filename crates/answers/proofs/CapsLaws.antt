@@ -32,21 +32,18 @@ unfolding firstOf
 first-both Accepted w e = (refl, e)
 first-both (Refused f) w e = absurd (refused-not e)
 
+-- what is accepted by a test passes it
+pub accepted-if : (t : Bool) (f : Refusal) → (if t then Accepted else Refused f) ≡ Accepted → t ≡ true
+accepted-if true f e = refl
+accepted-if false f e = absurd (refused-not e)
+
 pub length-in : (n : ℕ) → lengthVerdict n ≡ Accepted → n ≤ cap
 unfolding lengthVerdict
-length-in n e = go (leb n cap) refl e
-  where
-    go : (t : Bool) → leb n cap ≡ t → (if t then Accepted else Refused (TooLong (min n 4294967295))) ≡ Accepted → n ≤ cap
-    go true h e = leb-true n cap h
-    go false h e = absurd (refused-not e)
+length-in n e = leb-true n cap (accepted-if (leb n cap) (TooLong (min n 4294967295)) e)
 
 map-in : (o n : ℕ) → mapVerdict o n ≡ Accepted → o + n ≤ mapEnd
 unfolding mapVerdict
-map-in o n e = go (leb (o + n) mapEnd) refl e
-  where
-    go : (t : Bool) → leb (o + n) mapEnd ≡ t → (if t then Accepted else Refused OutOfMap) ≡ Accepted → o + n ≤ mapEnd
-    go true h e = leb-true (o + n) mapEnd h
-    go false h e = absurd (refused-not e)
+map-in o n e = leb-true (o + n) mapEnd (accepted-if (leb (o + n) mapEnd) OutOfMap e)
 
 -- a text that passes is short, and ends in the map
 pub record Fits (o n : ℕ) : Type 0 where
