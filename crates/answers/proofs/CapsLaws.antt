@@ -4,7 +4,7 @@ use mathlib.Core.Path.{_≡_, refl, sym, ap, _∙_}
 use mathlib.Core.Bool.{Bool, true, false}
 use native.Mathlib.Omega.{arith}
 use lib.Dec.{leb}
-use borrow.Author.Tests.{leb-true}
+use borrow.Author.Tests.{le-leb, leb-true}
 use Rattle.terms.specs.Terms.{if_then_else_}
 use Rattle.answers.specs.declared.Place.{Place}
 use Rattle.answers.specs.declared.Verdict.{Verdict}
@@ -55,6 +55,10 @@ unfolding textVerdict
 text-in o n e =
     let b = first-both (lengthVerdict n) (mapVerdict o n) e in
     record { short = length-in n (b .0); mapped = map-in o n (b .1) }
+
+pub fits-text : (o n : ℕ) → Fits o n → textVerdict o n ≡ Accepted
+unfolding textVerdict firstOf lengthVerdict mapVerdict
+fits-text o n f = rw (le-leb n cap (f .short), le-leb (o + n) mapEnd (f .mapped))
 
 -- then a position is the sum
 pub in-map : (o : ℕ) (p : Place) → o + p .0 ≤ 4294967295 → inMap o p .0 ≡ o + p .0

@@ -1,2 +1,4 @@
 -- What the caps and the map yield, for the rooms above.
 pub mod CapsLaws
+-- One answer for each contract.
+pub mod OneAnswer

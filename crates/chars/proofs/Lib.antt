@@ -6,3 +6,5 @@ pub mod EncodeLaws
 pub mod RoundTrip
 pub mod RunLaws
 pub mod LocalLaws
+-- One answer for each contract.
+pub mod OneAnswer

@@ -1,2 +1,5 @@
 -- The laws of identifiers.
 pub mod NameLaws
+-- The definitions on the cases, and one answer for each contract.
+pub mod Cases
+pub mod OneAnswer

@@ -8,6 +8,7 @@ use answers::Span;
 pub use opening::open;
 pub use stepping::eat_at;
 pub use stepping::expect_at;
+pub use stepping::is_blank;
 pub use stepping::next_at;
 pub use stepping::next_raw_at;
 use tokens::Token;

@@ -72,7 +72,7 @@ pub fn next_raw_at(text: &[u8], offset: u32, at: Place) -> Moved
 }
 
 // Kinds 0 and 1: blanks and comments.
-fn is_blank(kind: Token) -> bool
+pub fn is_blank(kind: Token) -> bool
     ensures { λ r. ⌜ r ≡ isBlank kind ⌝ }
 {
     kind.kind() <= 1

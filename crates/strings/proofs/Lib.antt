@@ -8,5 +8,7 @@ pub mod RuleLaws
 pub mod WritingLaws
 pub mod PouringLaws
 pub mod DecodingLaws
-pub mod Cases
 pub mod LocalLaws
+-- The definitions on the cases, and one answer for each contract.
+pub mod Cases
+pub mod OneAnswer

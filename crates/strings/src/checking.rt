@@ -42,7 +42,7 @@ fn fed(n: u32, seen: Seen, b: u32) -> Seen
 }
 
 // After whole characters: their bytes are well-formed, and the first goes on with no sequence.
-pub fn passed(seen: Seen) -> Seen
+pub(crate) fn passed(seen: Seen) -> Seen
     ensures { λ r. ⌜ r ≡ pass seen ⌝ }
 {
     match seen {
@@ -53,7 +53,7 @@ pub fn passed(seen: Seen) -> Seen
 }
 
 // After what a turn adds, behind n bytes.
-pub fn took(n: u32, seen: Seen, more: More) -> Seen
+pub(crate) fn took(n: u32, seen: Seen, more: More) -> Seen
     requires { ⌜ Fair seen ⌝ }
     ensures { λ r. ⌜ r ≡ Checking.took n seen more ⌝ }
 {

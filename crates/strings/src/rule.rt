@@ -88,7 +88,7 @@ fn turns_at(text: &[u8], offset: u32, from: Inside, start: Place) -> Element
 }
 
 // What stands between characters. Behind a run of raw ones it is a quote or a backslash, or else it is refused.
-pub fn element_at(text: &[u8], offset: u32, at: Place) -> Element
+pub(crate) fn element_at(text: &[u8], offset: u32, at: Place) -> Element
     ensures { λ r. ⌜ Leads (now (text .entry)) offset Inside.Plain at r ⌝ }
 {
     let b = ascii_at(text, at);

@@ -24,7 +24,7 @@ fn simple_of(c: u32) -> u32
 }
 
 // Between characters.
-pub fn plain_turn(at: Place, c: u32) -> Turn
+fn plain_turn(at: Place, c: u32) -> Turn
     ensures { λ r. ⌜ r ≡ plainTurn at c ⌝ }
 {
     if c == 0x22 {
@@ -122,7 +122,7 @@ fn number_turn(u: Place, first: Place, n: u32, lone: bool, at: Place, c: u32) ->
     Turn::Fail(Refusal::InvalidUnicodeValue(u, n))
 }
 
-pub fn turn_of(inside: Inside, at: Place, c: u32) -> Turn
+pub(crate) fn turn_of(inside: Inside, at: Place, c: u32) -> Turn
     requires { ⌜ Sound inside ⌝ }
     ensures { λ r. ⌜ r ≡ turnOf inside at c ⌝ }
 {

@@ -4,3 +4,7 @@ pub mod TableLaws
 pub mod FirstLaws
 pub mod CountLaws
 pub mod BytesLaws
+-- What the theorems of one answer say, those of this room, and texts for the cases.
+pub mod OneAnswer
+pub mod OneAnswers
+pub mod Quoted

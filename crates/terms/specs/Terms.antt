@@ -1,7 +1,8 @@
--- The words that every other definition is written in: a choice, a range, a table of ranges, a search, a count, a comparison of bytes.
+-- The words that every other definition is written in: a choice, a range, a table of ranges, a search, a count, a comparison of bytes, a write to the front of a buffer.
 use Prim.Native.Nat.{ℕ, zero, suc, _+_}
 use mathlib.Core.Bool.{Bool, true, false, _&&_, _||_}
-use mathlib.Core.List.{List, [], _∷_}
+use mathlib.Core.List.{List, [], _∷_, _++_}
+use lib.ListN.{length, drop}
 use lib.Dec.{leb, eqb}
 
 infixr 3 if_then_else_
@@ -50,3 +51,7 @@ sameBytes [] [] = true
 sameBytes [] (y ∷ ys) = false
 sameBytes (x ∷ xs) [] = false
 sameBytes (x ∷ xs) (y ∷ ys) = eqb x y && sameBytes xs ys
+
+-- A buffer with xs at its front, the rest as it was.
+abbrev pub over : {A : Type 0} → List A → List A → List A
+over xs buffer = xs ++ drop (length xs) buffer

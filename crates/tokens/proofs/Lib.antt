@@ -3,3 +3,6 @@ pub mod WordLaws
 pub mod RunLaws
 pub mod CommentLaws
 pub mod TokenLaws
+-- The definitions on the cases, and one answer for each contract.
+pub mod Cases
+pub mod OneAnswer

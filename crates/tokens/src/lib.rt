@@ -8,8 +8,6 @@ use answers::Place;
 use answers::Refusal;
 use answers::Span;
 pub use rules::next_raw;
-pub use rules::rule_of;
-pub use words::keyword;
 ghost use mathlib.Core.Path.{_≡_};
 ghost use Rattle.tokens.specs.Kinds.{kindOf};
 

@@ -24,7 +24,7 @@ ghost use Rattle.tokens.specs.Tokens.{ruleOf, asToken, slashRule, dashRu
 ghost use Rattle.tokens.specs.inner.Runs.{classOf};
 
 // The rule that a first character calls for: one choice over character numbers and ranges.
-pub fn rule_of(c: u32) -> Rule
+fn rule_of(c: u32) -> Rule
     ensures { λ r. ⌜ r ≡ ruleOf c ⌝ }
 {
     match c {

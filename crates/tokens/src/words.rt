@@ -92,7 +92,7 @@ fn keyword_of_seven(word: &[u8]) -> Token
 }
 
 // A word's kind.
-pub fn keyword(word: &[u8]) -> Token
+pub(crate) fn keyword(word: &[u8]) -> Token
     ensures { λ r. ⌜ r ≡ Keywords.keyword (now (word .entry)) ⌝ }
 {
     let n = word.len();

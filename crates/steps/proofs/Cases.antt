@@ -1,0 +1,157 @@
+-- The definitions tried on inputs where 01 could be read in two ways.
+use Prim.Native.Nat.{ℕ}
+use mathlib.Core.Path.{_≡_, refl}
+use mathlib.Core.List.{List, [], _∷_}
+use Rattle.terms.proofs.Quoted.{ascii}
+use Rattle.answers.specs.declared.Position.{Position}
+use Rattle.answers.specs.declared.Span.{Span}
+use Rattle.answers.specs.declared.Verdict.the-variants.{Refused as Refused′}
+use Rattle.answers.specs.declared.Refusal.{Refusal}
+use Rattle.answers.specs.Places.{place}
+use Rattle.answers.specs.Caps.{firstOf, lengthVerdict, mapVerdict, textVerdict}
+use Rattle.chars.specs.Screening.{offences, offenceOf, screenedBy, screened, wellFormed, invalidInput}
+use Rattle.tokens.specs.declared.Token.{Token}
+use Rattle.tokens.specs.Kinds.{kindOf}
+use Rattle.tokens.proofs.Cases.{at}
+use Rattle.steps.specs.declared.Opened.{Opened}
+use Rattle.steps.specs.declared.Step.{Step}
+use Rattle.steps.specs.declared.Moved.{Moved}
+use Rattle.steps.specs.Stream.{afterRaw, tokensBy, tokensFrom}
+use Rattle.steps.specs.Steps.{marked, openedBy, opened, cursorVerdict, kindVerdict, stepVerdict, moved, movedBy, rawStep, nextRawAt, isBlank, nextStep, nextAt, eatStep, eatAt, expectStep, expectAt}
+
+abbrev pub position : ℕ → Position
+position p = record { 0 = p }
+
+abbrev pub span : ℕ → ℕ → Span
+span from last = record { start = position from; end = position last }
+
+-- Opening a text that stands at this offset.
+unfoldable pub opening : List ℕ → ℕ → Opened
+unfolding at opened openedBy marked invalidInput wellFormed screened screenedBy offenceOf offences textVerdict mapVerdict lengthVerdict firstOf
+opening s o = opened s o
+
+-- 00 FF: 3 goes before screening.
+pub ill-before-control : opening (0x00 ∷ 0xFF ∷ []) 0 ≡ Opened.Refused (Refusal.IllFormed (record { at = place 1 }))
+unfolding opening
+ill-before-control = refl
+
+-- 65,537 bytes are 1, and its detail is the length,
+pub too-long : textVerdict 0 65537 ≡ Refused′ (Refusal.TooLong 65537)
+unfolding opening
+too-long = refl
+
+-- as far as it goes.
+pub far-too-long : textVerdict 0 4294967296 ≡ Refused′ (Refusal.TooLong 4294967295)
+unfolding opening
+far-too-long = refl
+
+-- No text at offset 4,294,967,295 is 2,
+pub out-of-map : opening [] 4294967295 ≡ Opened.Refused Refusal.OutOfMap
+unfolding opening
+out-of-map = refl
+
+-- and at one less it is opened.
+pub in-the-map : opening [] 4294967294 ≡ Opened.At (place 0)
+unfolding opening
+in-the-map = refl
+
+-- EF BB BF EF BB BF: opening skips one byte order mark,
+pub mark-skipped : opening (0xEF ∷ 0xBB ∷ 0xBF ∷ 0xEF ∷ 0xBB ∷ 0xBF ∷ []) 0 ≡ Opened.At (place 3)
+unfolding opening
+mark-skipped = refl
+
+-- C5 89 is 5.
+pub deprecated : opening (0xC5 ∷ 0x89 ∷ []) 0 ≡ Opened.Refused (Refusal.DeprecatedCodepoint (place 0) 0x149)
+unfolding opening
+deprecated = refl
+
+-- The steps from a place on, over a text at offset 5.
+unfoldable pub nextRaw : List ℕ → ℕ → Moved
+unfolding opening nextRawAt rawStep movedBy stepVerdict cursorVerdict
+nextRaw s p = nextRawAt s 5 (place p)
+
+unfoldable pub next : List ℕ → ℕ → Moved
+unfolding nextRaw nextAt nextStep isBlank kindOf tokensFrom tokensBy afterRaw
+next s p = nextAt s 5 (place p)
+
+unfoldable pub eat : List ℕ → ℕ → ℕ → Moved
+unfolding next eatAt eatStep kindVerdict
+eat s wanted p = eatAt s 5 wanted (place p)
+
+unfoldable pub expect : List ℕ → ℕ → ℕ → Moved
+unfolding eat expectAt expectStep
+expect s wanted p = expectAt s 5 wanted (place p)
+
+-- EF BB BF EF BB BF: a step over the second mark is 9,
+pub second-mark : nextRaw (0xEF ∷ 0xBB ∷ 0xBF ∷ 0xEF ∷ 0xBB ∷ 0xBF ∷ []) 3 ≡ moved (Step.Refused (Refusal.Unclassified (position 8) 0xFEFF)) (place 3)
+unfolding nextRaw
+second-mark = refl
+
+-- and one at place 0 too.
+pub first-mark : nextRaw (0xEF ∷ 0xBB ∷ 0xBF ∷ []) 0 ≡ moved (Step.Refused (Refusal.Unclassified (position 5) 0xFEFF)) (place 0)
+unfolding nextRaw
+first-mark = refl
+
+-- 00: steps do not screen, so it is 7,
+pub control-unscreened : nextRaw (0x00 ∷ []) 0 ≡ moved (Step.Refused (Refusal.Unexpected (position 5) 0)) (place 0)
+unfolding nextRaw
+control-unscreened = refl
+
+-- C5 89: and U+0149 is an Id.
+pub deprecated-unscreened : nextRaw (0xC5 ∷ 0x89 ∷ []) 0 ≡ moved (Step.Token Token.Id (span 5 7)) (place 2)
+unfolding nextRaw
+deprecated-unscreened = refl
+
+-- C3 A9, cursor 1: inside a character it is 3 at the cursor.
+pub inside-character : nextRaw (0xC3 ∷ 0xA9 ∷ []) 1 ≡ moved (Step.Refused (Refusal.IllFormed (record { at = place 1 }))) (place 1)
+unfolding nextRaw
+inside-character = refl
+
+-- 20 2F 2F: next at the end moves the cursor over blanks and comments to the end,
+pub next-at-end : next (ascii " //") 0 ≡ moved Step.End (place 3)
+unfolding next
+next-at-end = refl
+
+-- and eat leaves it.
+pub eat-at-end : eat (ascii " //") 62 0 ≡ moved Step.No (place 0)
+unfolding eat
+eat-at-end = refl
+
+-- Next skips blanks and comments,
+pub next-skips : next (ascii " /**/a") 0 ≡ moved (Step.Token Token.Id (span 10 11)) (place 6)
+unfolding next
+next-skips = refl
+
+-- so eat of kind 0 or 1 never says yes.
+pub eat-blank : eat (ascii " a") 0 0 ≡ moved Step.No (place 0)
+unfolding eat
+eat-blank = refl
+
+pub eat-comment : eat (ascii "/**/a") 1 0 ≡ moved Step.No (place 0)
+unfolding eat
+eat-comment = refl
+
+-- 20 0D: a refusal behind a blank leaves the cursor before the blank.
+pub refused-behind-blank : next (0x20 ∷ 0x0D ∷ []) 0 ≡ moved (Step.Refused (Refusal.Unexpected (position 6) 13)) (place 0)
+unfolding next
+refused-behind-blank = refl
+
+-- `a`, cursor 2, kind 67 wanted: 23 goes before 22,
+pub beyond-before-kind : eat (ascii "a") 67 2 ≡ moved (Step.Refused Refusal.BeyondText) (place 2)
+unfolding eat
+beyond-before-kind = refl
+
+-- and a cursor at the length is inside: 22.
+pub kind-too-large : expect (ascii "a") 67 1 ≡ moved (Step.Refused Refusal.BadSpan) (place 1)
+unfolding expect
+kind-too-large = refl
+
+-- `a `, `;` wanted behind the `a`: 21's found kind is 67 at the end of the text, and the cursor stands there.
+pub wanted-at-end : expect (ascii "a ") 6 1 ≡ moved (Step.Refused (Refusal.Wanted (position 7) 6 67)) (place 2)
+unfolding expect
+wanted-at-end = refl
+
+-- ` a;`, `;` wanted: 21 stands at the found token's start, and the cursor behind it.
+pub wanted-other : expect (ascii " a;") 6 0 ≡ moved (Step.Refused (Refusal.Wanted (position 6) 6 62)) (place 2)
+unfolding expect
+wanted-other = refl
