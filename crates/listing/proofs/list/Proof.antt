@@ -1,0 +1,39 @@
+use Rattle.listing.proofs.ListingLaws.{listed-at, listed-refused}
+use mathlib.Core.Path.{sym, _∙_}
+use Rattle.steps.proofs.StepLaws.{opened-in}
+use borrow.Author.Needs.{needs}
+use Rattle.listing.proofs.list.Statement.{statement}
+use Rattle.listing.proofs.list.Tie as tie
+
+open-requires : tie.Need-open-requires
+open-requires c κs = search needs
+
+enum-known-from : tie.Need-enum-known-from
+enum-known-from c = search needs
+
+list-from-requires : tie.Need-list-from-requires
+list-from-requires c κs = let w = opened-in _ _ _ (sym (c .before .before .before .before .«open» .ensures) ∙ c .before .before .from .given .1) in (w .within, w .fits .short)
+
+enum-known-refusal : tie.Need-enum-known-refusal
+enum-known-refusal c = search needs
+
+same-length : tie.Need-same-length
+same-length c = search needs
+
+returns : tie.Need-returns
+returns c = c .before .before .list-from .ensures ∙ sym (listed-at _ _ _ _ _ (sym (c .before .before .before .before .before .before .before .«open» .ensures) ∙ c .before .before .before .before .before .from .given .1))
+
+returns-2 : tie.Need-returns-2
+returns-2 c = sym (listed-refused _ _ _ _ _ (sym (c .before .before .before .«open» .ensures) ∙ c .before .refusal .given .1))
+
+pub list-spec : {M : Type 1} → statement M
+list-spec =
+    tie.close
+    (tie.spec
+    open-requires
+    enum-known-from
+    list-from-requires
+    enum-known-refusal
+    same-length
+    returns
+    returns-2)
