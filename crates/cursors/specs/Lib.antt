@@ -1,0 +1,2 @@
+-- The lent cursor.
+pub mod Cursors
