@@ -1,0 +1,5 @@
+-- The laws and theorems of the clerk's order.
+pub mod OrderLaws
+pub mod Unseen
+pub mod Acyclic
+pub mod Sequence

@@ -1,0 +1,3 @@
+-- The clerk's order, and chains of dependencies.
+pub mod Order
+pub mod Chain

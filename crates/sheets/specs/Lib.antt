@@ -1,0 +1,7 @@
+-- A dependency sheet: its words, its checks, and the edges that it lists.
+pub mod Words
+pub mod Checks
+pub mod Edges
+pub mod Bytes
+-- What only inner contracts cite.
+pub mod inner

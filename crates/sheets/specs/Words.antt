@@ -1,0 +1,33 @@
+-- 01, "Dependency sheet": a header of five words, then N rows of items and E rows of edges, four words each. Item i is row i, edge k is row N + k.
+use Prim.Native.Nat.{ℕ, _+_, _*_}
+use mathlib.Core.List.{List}
+use lib.ListN.{getD, take, drop}
+
+-- The header's counts, N and E.
+abbrev pub items : List ℕ → ℕ
+items ws = getD ws 0 0
+
+abbrev pub listed : List ℕ → ℕ
+listed ws = getD ws 1 0
+
+-- The first words of a row: where its name starts in the names, and the name's length.
+abbrev pub nameAt : List ℕ → ℕ → ℕ
+nameAt ws r = getD ws (5 + 4 * r) 0
+
+abbrev pub nameLength : List ℕ → ℕ → ℕ
+nameLength ws r = getD ws (5 + 4 * r + 1) 0
+
+-- The other words of an item's row: its first edge, and how many it has.
+abbrev pub firstEdge : List ℕ → ℕ → ℕ
+firstEdge ws i = getD ws (5 + 4 * i + 2) 0
+
+abbrev pub edgeCount : List ℕ → ℕ → ℕ
+edgeCount ws i = getD ws (5 + 4 * i + 3) 0
+
+-- The part of the names from a place on, of this length.
+abbrev pub part : List ℕ → ℕ → ℕ → List ℕ
+part bs at n = take n (drop at bs)
+
+-- The name of a row.
+abbrev pub nameOf : List ℕ → List ℕ → ℕ → List ℕ
+nameOf ws bs r = part bs (nameAt ws r) (nameLength ws r)

@@ -1,0 +1,3 @@
+-- What only inner contracts cite; no public contract needs it.
+pub mod Asked
+pub mod Signatures
