@@ -1,0 +1,9 @@
+-- The laws of the placing, and the theorems about the answer.
+mod StateLaws
+mod Tallied
+mod Taking
+mod Ending
+mod Answering
+mod Cases
+pub mod Theorems
+pub mod OneAnswer
