@@ -1,0 +1,244 @@
+//! The C functions of `include/witbox.h`, each behind a safe one over slices. The only unsafe code of this crate.
+//!
+//! A slice goes over as its pointer and its count. The pointer of an empty slice is not null in Rust, as the header asks. Each
+//! function reads and writes inside the slices that it is lent and keeps no pointer; `&mut` sees to it that nothing lent overlaps.
+
+use crate::error::{Error, END};
+use crate::{Span, Token};
+
+/// `struct witbox_cursor`
+#[repr(C)]
+#[derive(Clone, Copy)]
+pub struct Cursor {
+    pub at: u32,
+}
+
+/// `struct witbox_step`
+#[repr(C)]
+struct Step {
+    number: u32,
+    position: u32,
+    detail: u32,
+    kind: u32,
+    start: u32,
+    end: u32,
+}
+
+/// `struct witbox_opened`, `witbox_listed`, `witbox_decoded` and `witbox_sorted`: the three numbers and one more.
+#[repr(C)]
+struct Counted {
+    number: u32,
+    position: u32,
+    detail: u32,
+    count: u32,
+}
+
+/// `struct witbox_named`
+#[repr(C)]
+struct Named {
+    number: u32,
+    position: u32,
+    detail: u32,
+    place: u32,
+    length: u32,
+}
+
+type StepCall = unsafe extern "C" fn(*const u8, usize, u32, *mut Cursor) -> Step;
+type WantedCall = unsafe extern "C" fn(*const u8, usize, u32, u32, *mut Cursor) -> Step;
+type ListCall = unsafe extern "C" fn(*const u8, usize, u32, *mut u32, usize) -> Counted;
+type NameCall = unsafe extern "C" fn(*const u8, usize, u32, u32, u32) -> Named;
+
+extern "C" {
+    fn witbox_open(text: *const u8, length: usize, offset: u32) -> Counted;
+    fn witbox_next_raw(text: *const u8, length: usize, offset: u32, cursor: *mut Cursor) -> Step;
+    fn witbox_next(text: *const u8, length: usize, offset: u32, cursor: *mut Cursor) -> Step;
+    fn witbox_eat(
+        text: *const u8,
+        length: usize,
+        offset: u32,
+        wanted: u32,
+        cursor: *mut Cursor,
+    ) -> Step;
+    fn witbox_expect(
+        text: *const u8,
+        length: usize,
+        offset: u32,
+        wanted: u32,
+        cursor: *mut Cursor,
+    ) -> Step;
+    fn witbox_list_raw(
+        text: *const u8,
+        length: usize,
+        offset: u32,
+        table: *mut u32,
+        words: usize,
+    ) -> Counted;
+    fn witbox_list(
+        text: *const u8,
+        length: usize,
+        offset: u32,
+        table: *mut u32,
+        words: usize,
+    ) -> Counted;
+    fn witbox_string_literal(
+        text: *const u8,
+        length: usize,
+        offset: u32,
+        start: u32,
+        end: u32,
+        buffer: *mut u8,
+        room: usize,
+    ) -> Counted;
+    fn witbox_parse_id(text: *const u8, length: usize, offset: u32, start: u32, end: u32) -> Named;
+    fn witbox_parse_explicit_id(
+        text: *const u8,
+        length: usize,
+        offset: u32,
+        start: u32,
+        end: u32,
+    ) -> Named;
+    fn witbox_toposort(
+        sheet: *const u32,
+        words: usize,
+        names: *const u8,
+        names_length: usize,
+        order: *mut u32,
+        room: usize,
+    ) -> Counted;
+}
+
+impl Counted {
+    fn answer(self) -> Result<u32, Error> {
+        match self.number {
+            0 => Ok(self.count),
+            _ => Err(Error::told(self.number, self.position, self.detail)),
+        }
+    }
+}
+
+/// A token, or none at the end of the text and where eat says no.
+type Stepped = Result<Option<(Span, Token)>, Error>;
+
+impl Step {
+    fn answer(self) -> Stepped {
+        match (self.number, self.kind) {
+            (0, END) => Ok(None),
+            (0, kind) => match Token::from_kind(kind) {
+                Some(token) => Ok(Some((Span::told(self.start, self.end), token))),
+                None => Err(Error::told(0, self.start, kind)),
+            },
+            _ => Err(Error::told(self.number, self.position, self.detail)),
+        }
+    }
+}
+
+/// Where the first step is to read.
+pub fn open(text: &[u8], offset: u32) -> Result<Cursor, Error> {
+    let answer = unsafe { witbox_open(text.as_ptr(), text.len(), offset) };
+    answer.answer().map(|at| Cursor { at })
+}
+
+fn step(call: StepCall, text: &[u8], offset: u32, cursor: &mut Cursor) -> Stepped {
+    unsafe { call(text.as_ptr(), text.len(), offset, cursor) }.answer()
+}
+
+pub fn next_raw(text: &[u8], offset: u32, cursor: &mut Cursor) -> Stepped {
+    step(witbox_next_raw, text, offset, cursor)
+}
+
+pub fn next(text: &[u8], offset: u32, cursor: &mut Cursor) -> Stepped {
+    step(witbox_next, text, offset, cursor)
+}
+
+fn wanted(
+    call: WantedCall,
+    text: &[u8],
+    offset: u32,
+    token: Token,
+    cursor: &mut Cursor,
+) -> Stepped {
+    unsafe { call(text.as_ptr(), text.len(), offset, token.kind(), cursor) }.answer()
+}
+
+pub fn eat(text: &[u8], offset: u32, token: Token, cursor: &mut Cursor) -> Stepped {
+    wanted(witbox_eat, text, offset, token, cursor)
+}
+
+pub fn expect(text: &[u8], offset: u32, token: Token, cursor: &mut Cursor) -> Stepped {
+    wanted(witbox_expect, text, offset, token, cursor)
+}
+
+fn listed(call: ListCall, text: &[u8], offset: u32, table: &mut [u32]) -> Result<u32, Error> {
+    unsafe {
+        call(
+            text.as_ptr(),
+            text.len(),
+            offset,
+            table.as_mut_ptr(),
+            table.len(),
+        )
+    }
+    .answer()
+}
+
+/// How many rows are then at the table's front.
+pub fn list_raw(text: &[u8], offset: u32, table: &mut [u32]) -> Result<u32, Error> {
+    listed(witbox_list_raw, text, offset, table)
+}
+
+pub fn list(text: &[u8], offset: u32, table: &mut [u32]) -> Result<u32, Error> {
+    listed(witbox_list, text, offset, table)
+}
+
+/// How many bytes are then at the buffer's front.
+pub fn string_literal(
+    text: &[u8],
+    offset: u32,
+    span: Span,
+    buffer: &mut [u8],
+) -> Result<u32, Error> {
+    let (start, end) = span.numbers();
+    let (room, buffer) = (buffer.len(), buffer.as_mut_ptr());
+    unsafe { witbox_string_literal(text.as_ptr(), text.len(), offset, start, end, buffer, room) }
+        .answer()
+}
+
+/// The place and the length of the identifier.
+fn named(call: NameCall, text: &[u8], offset: u32, span: Span) -> Result<(u32, u32), Error> {
+    let (start, end) = span.numbers();
+    let answer = unsafe { call(text.as_ptr(), text.len(), offset, start, end) };
+    match answer.number {
+        0 => Ok((answer.place, answer.length)),
+        _ => Err(Error::told(answer.number, answer.position, answer.detail)),
+    }
+}
+
+pub fn parse_id(text: &[u8], offset: u32, span: Span) -> Result<(u32, u32), Error> {
+    named(witbox_parse_id, text, offset, span)
+}
+
+pub fn parse_explicit_id(text: &[u8], offset: u32, span: Span) -> Result<(u32, u32), Error> {
+    named(witbox_parse_explicit_id, text, offset, span)
+}
+
+/// How many dependencies have their target placed. The item numbers are then at the order's front.
+pub fn toposort(sheet: &[u32], names: &[u8], order: &mut [u32]) -> Result<u32, Error> {
+    let (room, order) = (order.len(), order.as_mut_ptr());
+    let answer = unsafe {
+        witbox_toposort(
+            sheet.as_ptr(),
+            sheet.len(),
+            names.as_ptr(),
+            names.len(),
+            order,
+            room,
+        )
+    };
+    match answer.number {
+        30 => Err(Error::TypeCycle {
+            dependency: answer.detail,
+            settled: answer.count,
+        }),
+        _ => answer.answer(),
+    }
+}

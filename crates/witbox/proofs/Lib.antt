@@ -1,0 +1,3 @@
+-- The laws that the C functions lean on.
+pub mod ForwardLaws
+pub mod OneAnswer

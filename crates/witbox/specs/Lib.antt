@@ -1,0 +1,3 @@
+-- The answers of the C functions.
+pub mod Hosts
+pub mod inner

@@ -1,0 +1,2 @@
+-- What only the room's own functions ask.
+pub mod Forward
