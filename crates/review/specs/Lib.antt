@@ -1,0 +1,1 @@
+-- Nothing of its own: what is stated here is about the other rooms' definitions.
