@@ -1,0 +1,2 @@
+-- The definition that the contract of `line_behind` cites.
+pub mod Lines
