@@ -1,0 +1,5 @@
+//! Texts and sheets to compare over.
+
+pub mod sheets;
+pub mod texts;
+pub mod wit;
