@@ -1,0 +1,48 @@
+#!/usr/bin/env python3
+"""docs/READING.md names every public function of the libraries and every definition file, and its links lead somewhere. Prints what is missing; exit 1 then.
+
+A public function is one that another crate can call: `pub fn` in lib.rt or in an `impl` there, or one that lib.rt hands on with `pub use`.
+"""
+import pathlib
+import re
+import sys
+
+TOP = pathlib.Path(__file__).resolve().parent.parent
+CRATES = TOP / "crates"
+
+
+def public(crate):
+    lib = (crate / "src/lib.rt").read_text(encoding="utf-8")
+    yield from re.findall(r"^pub (?:extern \"C\" )?fn (\w+)", lib, re.M)
+    for kind, body in re.findall(r"^impl (\w+) \{(.*?)^\}", lib, re.M | re.S):
+        yield from (f"{kind}::{name}" for name in re.findall(r"^    pub fn (\w+)", body, re.M))
+    handed = re.findall(r"^pub use \w+::([a-z]\w*);", lib, re.M)
+    yield from handed
+
+
+def main():
+    page = (TOP / "docs/READING.md").read_text(encoding="utf-8")
+    missing = []
+    for crate in sorted(CRATES.iterdir()):
+        if (crate / "src/lib.rt").is_file():
+            for name in public(crate):
+                if f"`{name}`" not in page and f"`{crate.name}::{name}`" not in page:
+                    missing.append(f"public function {crate.name}::{name}")
+        for spec in sorted(crate.glob("specs/*.antt")):
+            if spec.stem not in ("Lib", "inner") and f"../crates/{crate.name}/specs/{spec.name}" not in page:
+                missing.append(f"definition file {spec.relative_to(TOP)}")
+    for page_path in (TOP / "docs").glob("*.md"):
+        for link in re.findall(r"\]\((?!http)([^)#]+)", page_path.read_text(encoding="utf-8")):
+            if not (page_path.parent / link).exists():
+                missing.append(f"link {link} of {page_path.relative_to(TOP)}")
+    for link in re.findall(r"\]\((?!http)([^)#]+)", (TOP / "README.md").read_text(encoding="utf-8")):
+        if not (TOP / link).exists():
+            missing.append(f"link {link} of README.md")
+    for edit in re.findall(r"`(\w+/must-fail/[\w.]+)`", page):
+        if not (CRATES / edit).is_file():
+            missing.append(f"wrong edit {edit}")
+    print("\n".join(f"docs/READING.md lacks: {what}" for what in missing) or "docs/READING.md: every public function and definition file is there")
+    sys.exit(bool(missing))
+
+
+main()
