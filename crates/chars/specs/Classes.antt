@@ -10,16 +10,8 @@ use Rattle.chars.specs.declared.Class.the-variants.{Inside, Outside, Unk
 -- XID_Start: above U+02C1 it is not known.
 unfoldable pub xidStarts : List (Row Class)
 xidStarts =
-    0x41 to 0x5A is Inside
-    ∷ 0x61 to 0x7A is Inside
-    ∷ 0xAA to 0xAA is Inside
-    ∷ 0xB5 to 0xB5 is Inside
-    ∷ 0xBA to 0xBA is Inside
-    ∷ 0xC0 to 0xD6 is Inside
-    ∷ 0xD8 to 0xF6 is Inside
-    ∷ 0xF8 to 0x2C1 is Inside
-    ∷ 0x00 to 0x2C1 is Outside
-    ∷ []
+    0x41 to 0x5A is Inside ∷ 0x61 to 0x7A is Inside ∷ 0xAA to 0xAA is Inside ∷ 0xB5 to 0xB5 is Inside ∷ 0xBA to 0xBA is Inside
+    ∷ 0xC0 to 0xD6 is Inside ∷ 0xD8 to 0xF6 is Inside ∷ 0xF8 to 0x2C1 is Inside ∷ 0x00 to 0x2C1 is Outside ∷ []
 
 unfoldable pub xidStart : ℕ → Class
 xidStart c = said xidStarts Unknown c

@@ -15,19 +15,10 @@ use Rattle.chars.specs.View.{Chars, end, ill, char, charsFrom}
 -- What is wrong with a character.
 unfoldable pub offences : List (Row Offence)
 offences =
-    9 to 10 is None
-    ∷ 13 to 13 is None
-    ∷ 0x00 to 0x1F is Control
-    ∷ 0x7F to 0x9F is Control
-    ∷ 0x149 to 0x149 is Deprecated
-    ∷ 0x673 to 0x673 is Deprecated
-    ∷ 0xF77 to 0xF77 is Deprecated
-    ∷ 0xF79 to 0xF79 is Deprecated
-    ∷ 0x17A3 to 0x17A4 is Deprecated
-    ∷ 0x17B4 to 0x17B5 is Deprecated
-    ∷ 0x202A to 0x202E is Forbidden
-    ∷ 0x2066 to 0x2069 is Forbidden
-    ∷ []
+    9 to 10 is None ∷ 13 to 13 is None ∷ 0x00 to 0x1F is Control ∷ 0x7F to 0x9F is Control
+    ∷ 0x149 to 0x149 is Deprecated ∷ 0x673 to 0x673 is Deprecated ∷ 0xF77 to 0xF77 is Deprecated ∷ 0xF79 to 0xF79 is Deprecated
+    ∷ 0x17A3 to 0x17A4 is Deprecated ∷ 0x17B4 to 0x17B5 is Deprecated
+    ∷ 0x202A to 0x202E is Forbidden ∷ 0x2066 to 0x2069 is Forbidden ∷ []
 
 unfoldable pub offenceOf : ℕ → Offence
 offenceOf c = said offences None c

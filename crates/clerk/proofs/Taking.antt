@@ -15,7 +15,7 @@ use Rattle.terms.proofs.CountLaws.{count-at, count-end, count-le, member-snoc}
 use Rattle.graph.specs.Order.{Edge, edges, noEdge, waits}
 use Rattle.graph.proofs.OrderLaws.{edges-at, edges-length, hits, names, unmet-snoc, settled-snoc}
 use Rattle.clerk.specs.declared.State.{State}
-use Rattle.sheets.specs.Bytes.{holds}
+use Rattle.sheets.specs.inner.Bytes.{holds}
 use Rattle.clerk.specs.inner.State.{placedOf, Tracks, Placed}
 
 pub record Taking (es : List Edge) (x : ℕ) (l₀ : List ℕ) (n₀ : ℕ) (l : List ℕ) (n k : ℕ) : Type 0 where

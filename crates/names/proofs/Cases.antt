@@ -2,8 +2,7 @@
 use Prim.Native.Nat.{ℕ}
 use mathlib.Core.Path.{_≡_, refl}
 use mathlib.Core.List.{List, [], _∷_}
-use Rattle.terms.specs.Terms.{said, within}
-use Rattle.terms.proofs.Quoted.{ascii}
+use Rattle.terms.specs.Terms.{said, within, ascii}
 use Rattle.answers.specs.declared.Span.{Span}
 use Rattle.answers.specs.Refusals.{told}
 use Rattle.answers.specs.Caps.{firstOf, lengthVerdict, mapVerdict, textVerdict}

@@ -48,42 +48,18 @@ percentVerdict s o span =
 -- What a character is to an identifier.
 unfoldable pub letters : List (Row Letter)
 letters =
-    0x2D to 0x2D is Letter.Dash
-    ∷ 0x30 to 0x39 is Letter.Digit
-    ∷ 0x41 to 0x5A is Letter.Upper
-    ∷ 0x61 to 0x7A is Letter.Lower
-    ∷ []
+    0x2D to 0x2D is Letter.Dash ∷ 0x30 to 0x39 is Letter.Digit ∷ 0x41 to 0x5A is Letter.Upper ∷ 0x61 to 0x7A is Letter.Lower ∷ []
 
 unfoldable pub letterOf : ℕ → Letter
 letterOf c = said letters Letter.Other c
 
 -- What it does, by where in the parts it stands: `-` ends a part that is not empty; the first part begins with a letter; a part's letters are of one case.
 unfoldable pub stepBy : Part → Letter → Step
-stepBy Part.First Letter.Dash = Step.Empty
-stepBy Part.First Letter.Digit = Step.Bad
-stepBy Part.First Letter.Upper = Step.On Part.Upper
-stepBy Part.First Letter.Lower = Step.On Part.Lower
-stepBy Part.First Letter.Other = Step.Bad
-stepBy Part.Next Letter.Dash = Step.Empty
-stepBy Part.Next Letter.Digit = Step.On Part.Digits
-stepBy Part.Next Letter.Upper = Step.On Part.Upper
-stepBy Part.Next Letter.Lower = Step.On Part.Lower
-stepBy Part.Next Letter.Other = Step.Bad
-stepBy Part.Digits Letter.Dash = Step.On Part.Next
-stepBy Part.Digits Letter.Digit = Step.On Part.Digits
-stepBy Part.Digits Letter.Upper = Step.On Part.Upper
-stepBy Part.Digits Letter.Lower = Step.On Part.Lower
-stepBy Part.Digits Letter.Other = Step.Bad
-stepBy Part.Upper Letter.Dash = Step.On Part.Next
-stepBy Part.Upper Letter.Digit = Step.On Part.Upper
-stepBy Part.Upper Letter.Upper = Step.On Part.Upper
-stepBy Part.Upper Letter.Lower = Step.Bad
-stepBy Part.Upper Letter.Other = Step.Bad
-stepBy Part.Lower Letter.Dash = Step.On Part.Next
-stepBy Part.Lower Letter.Digit = Step.On Part.Lower
-stepBy Part.Lower Letter.Upper = Step.Bad
-stepBy Part.Lower Letter.Lower = Step.On Part.Lower
-stepBy Part.Lower Letter.Other = Step.Bad
+stepBy Part.First letter = elim letter [ Letter.Dash ↦ Step.Empty | Letter.Digit ↦ Step.Bad | Letter.Upper ↦ Step.On Part.Upper | Letter.Lower ↦ Step.On Part.Lower | Letter.Other ↦ Step.Bad ]
+stepBy Part.Next letter = elim letter [ Letter.Dash ↦ Step.Empty | Letter.Digit ↦ Step.On Part.Digits | Letter.Upper ↦ Step.On Part.Upper | Letter.Lower ↦ Step.On Part.Lower | Letter.Other ↦ Step.Bad ]
+stepBy Part.Digits letter = elim letter [ Letter.Dash ↦ Step.On Part.Next | Letter.Digit ↦ Step.On Part.Digits | Letter.Upper ↦ Step.On Part.Upper | Letter.Lower ↦ Step.On Part.Lower | Letter.Other ↦ Step.Bad ]
+stepBy Part.Upper letter = elim letter [ Letter.Dash ↦ Step.On Part.Next | Letter.Digit ↦ Step.On Part.Upper | Letter.Upper ↦ Step.On Part.Upper | Letter.Lower ↦ Step.Bad | Letter.Other ↦ Step.Bad ]
+stepBy Part.Lower letter = elim letter [ Letter.Dash ↦ Step.On Part.Next | Letter.Digit ↦ Step.On Part.Lower | Letter.Upper ↦ Step.Bad | Letter.Lower ↦ Step.On Part.Lower | Letter.Other ↦ Step.Bad ]
 
 -- Where an identifier may end: behind a part that is not empty.
 unfoldable pub endedBy : Position → Part → Verdict

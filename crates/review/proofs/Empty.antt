@@ -17,7 +17,7 @@ use denote.Triple.Clauses.{AtExit}
 use lib.ListN.{length, getD}
 use borrow.Author.Tests.{le-leb}
 use Rattle.terms.proofs.OneAnswer.{both}
-use Rattle.terms.proofs.Quoted.{ascii}
+use Rattle.terms.specs.Terms.{ascii}
 use Rattle.answers.specs.declared.Refusal.{Refusal}
 use Rattle.answers.specs.declared.Verdict.{Verdict}
 use Rattle.listing.specs.declared.Listing.{Listing}

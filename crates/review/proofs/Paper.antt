@@ -3,8 +3,7 @@ use Prim.Native.Nat.{ℕ, _*_}
 use mathlib.Core.Path.{_≡_, refl}
 use mathlib.Core.List.{List, [], _∷_, _++_, map}
 use lib.ListN.{length, take}
-use Rattle.terms.specs.Terms.{first, count, member, sameBytes}
-use Rattle.terms.proofs.Quoted.{ascii}
+use Rattle.terms.specs.Terms.{first, count, member, sameBytes, ascii}
 use Rattle.answers.specs.Refusals.{told, toldOf}
 use Rattle.chars.specs.Utf8.{isScalar}
 use Rattle.strings.specs.Decoding.{decoded}

@@ -5,73 +5,20 @@ use tokens::Token;
 pub fn name_of(out: Out, kind: Token) -> Out {
     out.entry(
         b"\
-        Whitespace    \n\
-        Comment       \n\
-        Equals        \n\
-        Comma         \n\
-        Colon         \n\
-        Period        \n\
-        Semicolon     \n\
-        LeftParen     \n\
-        RightParen    \n\
-        LeftBrace     \n\
-        RightBrace    \n\
-        LessThan      \n\
-        GreaterThan   \n\
-        RArrow        \n\
-        Star          \n\
-        At            \n\
-        Slash         \n\
-        Plus          \n\
-        Minus         \n\
-        StringLiteral \n\
-        Use           \n\
-        Type          \n\
-        Func          \n\
-        U8            \n\
-        U16           \n\
-        U32           \n\
-        U64           \n\
-        S8            \n\
-        S16           \n\
-        S32           \n\
-        S64           \n\
-        F32           \n\
-        F64           \n\
-        Char          \n\
-        Record        \n\
-        Resource      \n\
-        Own           \n\
-        Borrow        \n\
-        Flags         \n\
-        Variant       \n\
-        Enum          \n\
-        Bool          \n\
-        String_       \n\
-        Option_       \n\
-        Result_       \n\
-        Future        \n\
-        Stream        \n\
-        ErrorContext  \n\
-        List          \n\
-        Map           \n\
-        Underscore    \n\
-        As            \n\
-        From_         \n\
-        Static        \n\
-        Interface     \n\
-        Tuple         \n\
-        Import        \n\
-        Export        \n\
-        World         \n\
-        Package       \n\
-        Constructor   \n\
-        Async         \n\
-        Id            \n\
-        ExplicitId    \n\
-        Integer       \n\
-        Include       \n\
-        With          \n\
+        Whitespace    \nComment       \nEquals        \nComma         \nColon         \n\
+        Period        \nSemicolon     \nLeftParen     \nRightParen    \nLeftBrace     \n\
+        RightBrace    \nLessThan      \nGreaterThan   \nRArrow        \nStar          \n\
+        At            \nSlash         \nPlus          \nMinus         \nStringLiteral \n\
+        Use           \nType          \nFunc          \nU8            \nU16           \n\
+        U32           \nU64           \nS8            \nS16           \nS32           \n\
+        S64           \nF32           \nF64           \nChar          \nRecord        \n\
+        Resource      \nOwn           \nBorrow        \nFlags         \nVariant       \n\
+        Enum          \nBool          \nString_       \nOption_       \nResult_       \n\
+        Future        \nStream        \nErrorContext  \nList          \nMap           \n\
+        Underscore    \nAs            \nFrom_         \nStatic        \nInterface     \n\
+        Tuple         \nImport        \nExport        \nWorld         \nPackage       \n\
+        Constructor   \nAsync         \nId            \nExplicitId    \nInteger       \n\
+        Include       \nWith          \n\
         ",
         kind.kind() as u32,
     )

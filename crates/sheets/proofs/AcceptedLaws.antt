@@ -18,7 +18,8 @@ use Rattle.answers.specs.Caps.{firstOf}
 use Rattle.answers.proofs.CapsLaws.{first-both, refused-not}
 use Rattle.sheets.specs.Words.{items, listed}
 use Rattle.sheets.specs.Checks.{firstRepeat, unlisted, firstUnlisted, targetOf, repeatVerdict, targetVerdict, wordsVerdict, itemsVerdict, sheetVerdict}
-use Rattle.sheets.specs.Edges.{ownerOf, ownersOf, targetsOf, tablesVerdict, readyVerdict, resolvedBy, resolved, Resolved}
+use Rattle.sheets.specs.Edges.{ownerOf, ownersOf, targetsOf}
+use Rattle.sheets.specs.inner.Resolving.{tablesVerdict, readyVerdict, resolvedBy, resolved, Resolved}
 use Rattle.sheets.specs.inner.Asked.{Shaped}
 use Rattle.sheets.proofs.CheckLaws.{words-accepted}
 use Rattle.sheets.proofs.EdgeLaws.{table-length, target-below}

@@ -10,7 +10,7 @@ use lib.ListN.{length, getD}
 use lib.Dec.{eqb}
 use Rattle.terms.specs.Terms.{if_then_else_, first}
 use Rattle.terms.proofs.FirstLaws.{first-skip}
-use Rattle.sheets.specs.Bytes.{holds, byteFrom}
+use Rattle.sheets.specs.inner.Bytes.{holds, byteFrom}
 
 module _ (bs : List ℕ) (x k : ℕ) where
   -- 0 means that none of the first i bytes from k on is x

@@ -16,7 +16,7 @@ use Rattle.terms.proofs.BytesLaws.{same-equal}
 use Rattle.terms.proofs.TestLaws.{fails}
 use Rattle.sheets.specs.Words.{items, nameOf, part}
 use Rattle.sheets.specs.Checks.{named, found, repeats}
-use Rattle.sheets.specs.Bytes.{holds, byteFrom}
+use Rattle.sheets.specs.inner.Bytes.{holds, byteFrom}
 use Rattle.sheets.specs.declared.edges.Memo.{Memo}
 use Rattle.sheets.specs.inner.Signatures.{signedFrom, signatureOf, signaturesOf, Signed, Forgets, Remembers}
 use Rattle.sheets.proofs.EdgeLaws.{table-length, table-at, over-front}

@@ -10,7 +10,8 @@ use Rattle.answers.specs.declared.Refusal.the-variants.{RepeatedName, ItemNotFo
 use Rattle.answers.proofs.CapsLaws.{first-refused, first-accepted}
 use Rattle.sheets.specs.Words.{items, listed}
 use Rattle.sheets.specs.Checks.{firstRepeat, repeatVerdict, targetVerdict, wordsVerdict, itemsVerdict}
-use Rattle.sheets.specs.Edges.{ownerOf, tablesVerdict, readyVerdict, resolvedBy, resolved, Resolved}
+use Rattle.sheets.specs.Edges.{ownerOf}
+use Rattle.sheets.specs.inner.Resolving.{tablesVerdict, readyVerdict, resolvedBy, resolved, Resolved}
 use Rattle.sheets.specs.Checks.{targetOf}
 use Rattle.sheets.specs.inner.Asked.{Filled}
 use Rattle.sheets.proofs.EdgeLaws.{over-none}

@@ -2,6 +2,5 @@
 pub mod Words
 pub mod Checks
 pub mod Edges
-pub mod Bytes
 -- What only inner contracts cite.
 pub mod inner

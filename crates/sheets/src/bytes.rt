@@ -5,7 +5,7 @@ ghost use Prim.Native.Nat.{ℕ, _+_, _-_, _<_, _≤_};
 ghost use lib.ListN.{length, getD};
 ghost use lib.Dec.{eqb};
 ghost use Rattle.terms.specs.Terms.{if_then_else_, first};
-ghost use Rattle.sheets.specs.Bytes.{holds, byteFrom};
+ghost use Rattle.sheets.specs.inner.Bytes.{holds, byteFrom};
 
 // 1 where the byte is x, else what was seen before.
 fn seen(b: u8, x: u8, any: u8) -> u8

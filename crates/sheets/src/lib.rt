@@ -8,7 +8,7 @@ mod words;
 use answers::Refusal;
 use answers::Verdict;
 pub use bytes::byte_from;
-ghost use Rattle.sheets.specs.Edges.{Resolved};
+ghost use Rattle.sheets.specs.inner.Resolving.{Resolved};
 
 // The checks up to 29, and before 29 whether the two tables have room. Each edge's item and target are written to them, up to the first edge that
 // names no item.

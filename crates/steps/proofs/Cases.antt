@@ -2,7 +2,7 @@
 use Prim.Native.Nat.{ℕ}
 use mathlib.Core.Path.{_≡_, refl}
 use mathlib.Core.List.{List, [], _∷_}
-use Rattle.terms.proofs.Quoted.{ascii}
+use Rattle.terms.specs.Terms.{ascii}
 use Rattle.answers.specs.declared.Position.{Position}
 use Rattle.answers.specs.declared.Span.{Span}
 use Rattle.answers.specs.declared.Verdict.the-variants.{Refused as Refused′}

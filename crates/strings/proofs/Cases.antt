@@ -2,8 +2,7 @@
 use Prim.Native.Nat.{ℕ}
 use mathlib.Core.Path.{_≡_, refl}
 use mathlib.Core.List.{List, [], _∷_, _++_}
-use Rattle.terms.specs.Terms.{said, within}
-use Rattle.terms.proofs.Quoted.{ascii}
+use Rattle.terms.specs.Terms.{said, within, ascii}
 use Rattle.answers.specs.Places.{place, inMap}
 use Rattle.answers.specs.Caps.{firstOf, lengthVerdict, mapVerdict, textVerdict}
 use Rattle.answers.specs.declared.Refusal.the-variants.{IllFormed, InvalidStringElement, InvalidStringEscape, WantedChar, UnexpectedEof, InvalidUtf8, NumberTooBig, LoneUnderscore, InvalidHexDigit, InvalidUnicodeValue, BadSpan, NoRoom}

@@ -25,13 +25,7 @@ use Rattle.strings.specs.declared.Literal.the-variants.{Closed, Refused}
 -- The character that one behind a backslash stands for, 0 for none: `\"` `\'` `\\` `\t` `\n` `\r`.
 unfoldable pub simples : List (Row ℕ)
 simples =
-    0x22 to 0x22 is 0x22
-    ∷ 0x27 to 0x27 is 0x27
-    ∷ 0x5C to 0x5C is 0x5C
-    ∷ 0x74 to 0x74 is 9
-    ∷ 0x6E to 0x6E is 10
-    ∷ 0x72 to 0x72 is 13
-    ∷ []
+    0x22 to 0x22 is 0x22 ∷ 0x27 to 0x27 is 0x27 ∷ 0x5C to 0x5C is 0x5C ∷ 0x74 to 0x74 is 9 ∷ 0x6E to 0x6E is 10 ∷ 0x72 to 0x72 is 13 ∷ []
 
 unfoldable pub simpleOf : ℕ → ℕ
 simpleOf c = said simples 0 c

@@ -4,7 +4,6 @@ pub mod TableLaws
 pub mod FirstLaws
 pub mod CountLaws
 pub mod BytesLaws
--- What the theorems of one answer say, those of this room, and texts for the cases.
+-- What the theorems of one answer say, and those of this room.
 pub mod OneAnswer
 pub mod OneAnswers
-pub mod Quoted

@@ -1,5 +1,7 @@
--- The words that every other definition is written in: a choice, a range, a table of ranges, a search, a count, a comparison of bytes, a write to the front of a buffer.
+-- The words that every other definition is written in: a choice, a range, a table of ranges, a search, a count, a comparison of bytes, a text as bytes, a write to the front of a buffer.
 use Prim.Native.Nat.{ℕ, zero, suc, _+_}
+use Prim.Native.Char.{code}
+use Prim.Native.String.{String, [] as none, _∷_ as _then_}
 use mathlib.Core.Bool.{Bool, true, false, _&&_, _||_}
 use mathlib.Core.List.{List, [], _∷_, _++_}
 use lib.ListN.{length, drop}
@@ -51,6 +53,11 @@ sameBytes [] [] = true
 sameBytes [] (y ∷ ys) = false
 sameBytes (x ∷ xs) [] = false
 sameBytes (x ∷ xs) (y ∷ ys) = eqb x y && sameBytes xs ys
+
+-- The bytes of a text of ASCII characters.
+unfoldable pub ascii : String → List ℕ
+ascii none = []
+ascii (c then s) = code c ∷ ascii s
 
 -- A buffer with xs at its front, the rest as it was.
 abbrev pub over : {A : Type 0} → List A → List A → List A

@@ -2,8 +2,7 @@
 use Prim.Native.Nat.{ℕ}
 use mathlib.Core.Path.{_≡_, refl}
 use mathlib.Core.List.{List, [], _∷_, _++_}
-use Rattle.terms.specs.Terms.{said, within, sameBytes}
-use Rattle.terms.proofs.Quoted.{ascii}
+use Rattle.terms.specs.Terms.{said, within, sameBytes, ascii}
 use Rattle.answers.specs.Places.{place, inMap}
 use Rattle.answers.specs.declared.Refusal.the-variants.{IllFormed, Unexpected, UnterminatedComment, Unclassified, InvalidStringElement}
 use Rattle.chars.specs.Utf8.{byteAt, leads, leadOf, isTail, charBy, charAt, encode}

@@ -1,4 +1,5 @@
 -- The laws of the token rules, for the rooms above.
+pub mod KindLaws
 pub mod WordLaws
 pub mod RunLaws
 pub mod CommentLaws

@@ -6,7 +6,7 @@ use mathlib.Core.List.{List, [], _∷_}
 use lib.ListN.{length}
 use lib.Dec.{eqb}
 use borrow.Author.Tests.{eqb-false, ne-eqb}
-use Rattle.terms.specs.Terms.{if_then_else_, sameBytes}
+use Rattle.terms.specs.Terms.{if_then_else_, sameBytes, ascii}
 use Rattle.terms.proofs.BytesLaws.{same-longer}
 use Rattle.terms.proofs.TableLaws.{Rest, isKey, isKeys, keys-out}
 use Rattle.tokens.specs.declared.Token.{Token}
@@ -49,7 +49,7 @@ unfoldable pub lengths : List (List ℕ)
 lengths = (1 ∷ []) ∷ (2 ∷ []) ∷ (3 ∷ []) ∷ (4 ∷ []) ∷ (5 ∷ []) ∷ (6 ∷ []) ∷ (7 ∷ []) ∷ (8 ∷ []) ∷ (9 ∷ []) ∷ (11 ∷ []) ∷ (13 ∷ []) ∷ []
 
 none-long : (n : ℕ) → Rest (Unit {0}) lengths n → ofLength n keywords ≡ []
-unfolding lengths ofLength keep keywords isKeys isKey
+unfolding lengths ofLength keep keywords ascii isKeys isKey
 none-long n r = rw (no 1 refl, no 2 refl, no 3 refl, no 4 refl, no 5 refl, no 6 refl, no 7 refl, no 8 refl, no 9 refl, no 11 refl, no 13 refl)
   where
     no : (k : ℕ) → isKeys k lengths ≡ true → eqb n k ≡ false

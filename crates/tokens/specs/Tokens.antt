@@ -32,31 +32,15 @@ use Rattle.tokens.specs.Comments.{blank, digit, run, lineComment, blockC
 -- The rule that a first character calls for.
 unfoldable pub rules : List (Row Rule)
 rules =
-    0x09 to 0x0A is Blanks  -- tab, newline
-    ∷ 0x20 to 0x20 is Blanks  -- space
-    ∷ 0x22 to 0x22 is Quote  -- "
-    ∷ 0x25 to 0x25 is Percent  -- %
-    ∷ 0x28 to 0x28 is Mark Token.LeftParen  -- (
-    ∷ 0x29 to 0x29 is Mark Token.RightParen  -- )
-    ∷ 0x2A to 0x2A is Mark Token.Star  -- *
-    ∷ 0x2B to 0x2B is Mark Token.Plus  -- +
-    ∷ 0x2C to 0x2C is Mark Token.Comma  -- ,
-    ∷ 0x2D to 0x2D is Dash  -- -
-    ∷ 0x2E to 0x2E is Mark Token.Period  -- .
-    ∷ 0x2F to 0x2F is Slash  -- /
-    ∷ 0x30 to 0x39 is Digits  -- 0 to 9
-    ∷ 0x3A to 0x3A is Mark Token.Colon  -- :
-    ∷ 0x3B to 0x3B is Mark Token.Semicolon  -- ;
-    ∷ 0x3C to 0x3C is Mark Token.LessThan  -- <
-    ∷ 0x3D to 0x3D is Mark Token.Equals  -- =
-    ∷ 0x3E to 0x3E is Mark Token.GreaterThan  -- >
-    ∷ 0x40 to 0x40 is Mark Token.At  -- @
-    ∷ 0x41 to 0x5A is Word  -- A to Z
-    ∷ 0x5F to 0x5F is Word  -- _
-    ∷ 0x61 to 0x7A is Word  -- a to z
-    ∷ 0x7B to 0x7B is Mark Token.LeftBrace  -- {
-    ∷ 0x7D to 0x7D is Mark Token.RightBrace  -- }
-    ∷ []
+    0x09 to 0x0A is Blanks ∷ 0x20 to 0x20 is Blanks  -- tab, newline, space
+    ∷ 0x22 to 0x22 is Quote ∷ 0x25 to 0x25 is Percent  -- " %
+    ∷ 0x28 to 0x28 is Mark Token.LeftParen ∷ 0x29 to 0x29 is Mark Token.RightParen  -- ( )
+    ∷ 0x2A to 0x2A is Mark Token.Star ∷ 0x2B to 0x2B is Mark Token.Plus ∷ 0x2C to 0x2C is Mark Token.Comma  -- * + ,
+    ∷ 0x2D to 0x2D is Dash ∷ 0x2E to 0x2E is Mark Token.Period ∷ 0x2F to 0x2F is Slash  -- - . /
+    ∷ 0x30 to 0x39 is Digits ∷ 0x3A to 0x3A is Mark Token.Colon ∷ 0x3B to 0x3B is Mark Token.Semicolon  -- 0 to 9 : ;
+    ∷ 0x3C to 0x3C is Mark Token.LessThan ∷ 0x3D to 0x3D is Mark Token.Equals ∷ 0x3E to 0x3E is Mark Token.GreaterThan  -- < = >
+    ∷ 0x40 to 0x40 is Mark Token.At ∷ 0x41 to 0x5A is Word ∷ 0x5F to 0x5F is Word ∷ 0x61 to 0x7A is Word  -- @ A to Z _ a to z
+    ∷ 0x7B to 0x7B is Mark Token.LeftBrace ∷ 0x7D to 0x7D is Mark Token.RightBrace ∷ []  -- { }
 
 -- Any other first character goes by its class.
 unfoldable pub ruleOf : ℕ → Rule

@@ -8,6 +8,7 @@ use answers::Place;
 use answers::Refusal;
 use answers::Span;
 pub use rules::next_raw;
+ghost use Prim.Native.Nat.{_<_};
 ghost use mathlib.Core.Path.{_≡_};
 ghost use Rattle.tokens.specs.Kinds.{kindOf};
 
@@ -132,7 +133,7 @@ pub enum Lexed {
 }
 
 impl Token {
-    // The kind's number.
+    // A kind's number: blanks, comments, marks and strings here, the words behind them.
     pub fn kind(self) -> u8
         ensures { λ r. ⌜ r ≡ kindOf self ⌝ }
     {
@@ -157,6 +158,16 @@ impl Token {
             Token::Plus => 17,
             Token::Minus => 18,
             Token::StringLiteral => 19,
+            _ => self.word_kind(),
+        }
+    }
+
+    // The words up to the result types.
+    fn word_kind(self) -> u8
+        requires { ⌜ 19 < kindOf self ⌝ }
+        ensures { λ r. ⌜ r ≡ kindOf self ⌝ }
+    {
+        match self {
             Token::Use => 20,
             Token::Type => 21,
             Token::Func => 22,
@@ -182,6 +193,16 @@ impl Token {
             Token::String_ => 42,
             Token::Option_ => 43,
             Token::Result_ => 44,
+            _ => self.later_word_kind(),
+        }
+    }
+
+    // The other words, identifiers and numbers.
+    fn later_word_kind(self) -> u8
+        requires { ⌜ 44 < kindOf self ⌝ }
+        ensures { λ r. ⌜ r ≡ kindOf self ⌝ }
+    {
+        match self {
             Token::Future => 45,
             Token::Stream => 46,
             Token::ErrorContext => 47,
@@ -203,7 +224,7 @@ impl Token {
             Token::ExplicitId => 63,
             Token::Integer => 64,
             Token::Include => 65,
-            Token::With => 66,
+            _ => 66,
         }
     }
 }

@@ -7,7 +7,7 @@ use Rattle.terms.proofs.FirstLaws.{first-from}
 use Rattle.terms.proofs.CountLaws.{count-le}
 use Rattle.graph.specs.Order.{edges, noEdge, isSettled}
 use Rattle.graph.proofs.OrderLaws.{edges-at, edges-length, names}
-use Rattle.sheets.specs.Bytes.{holds}
+use Rattle.sheets.specs.inner.Bytes.{holds}
 use Rattle.clerk.specs.inner.State.{placedOf}
 use Rattle.clerk.proofs.Taking.{Stands, stands-next, taking-start, taking-some, taking-hit, enough, small, placed-of}
 use Rattle.clerk.proofs.placing.place.Statement.{statement}

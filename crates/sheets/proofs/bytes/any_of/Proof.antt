@@ -3,7 +3,7 @@ use mathlib.Core.Path.{_≡_}
 use mathlib.Core.Bool.{false}
 use native.Mathlib.Omega.{arith}
 use borrow.Author.Needs.{needs}
-use Rattle.sheets.specs.Bytes.{holds}
+use Rattle.sheets.specs.inner.Bytes.{holds}
 use Rattle.sheets.proofs.ByteLaws.{none-yet, none-more}
 use Rattle.sheets.proofs.bytes.any_of.Statement.{statement}
 use Rattle.sheets.proofs.bytes.any_of.Tie as tie

@@ -5,7 +5,7 @@ use lib.ListN.{length}
 use borrow.Author.Tests.{eq-eqb, ne-eqb}
 use borrow.Author.Needs.{needs}
 use Rattle.terms.proofs.FirstLaws.{first-miss, first-hit, first-end}
-use Rattle.sheets.specs.Bytes.{holds, byteFrom}
+use Rattle.sheets.specs.inner.Bytes.{holds, byteFrom}
 use Rattle.sheets.proofs.bytes.byte_from.Statement.{statement}
 use Rattle.sheets.proofs.bytes.byte_from.Tie as tie
 

@@ -3,7 +3,7 @@ use mathlib.Core.Path.{_≡_, refl, _∙_}
 use native.Mathlib.Omega.{arith}
 use lib.ListN.{length}
 use borrow.Author.Needs.{needs}
-use Rattle.sheets.specs.Bytes.{byteFrom}
+use Rattle.sheets.specs.inner.Bytes.{byteFrom}
 use Rattle.sheets.proofs.ByteLaws.{skip-more}
 use Rattle.sheets.proofs.bytes.skip.Statement.{statement}
 use Rattle.sheets.proofs.bytes.skip.Tie as tie

@@ -8,7 +8,7 @@ use Rattle.terms.specs.Terms.{first}
 use Rattle.terms.proofs.FirstLaws.{first-miss, first-hit, first-end, first-start, first-from}
 use Rattle.sheets.specs.Words.{part}
 use Rattle.sheets.specs.Checks.{named, found}
-use Rattle.sheets.specs.Bytes.{holds}
+use Rattle.sheets.specs.inner.Bytes.{holds}
 use Rattle.sheets.proofs.NameLaws.{found-on}
 use Rattle.sheets.proofs.names.find.Statement.{statement}
 use Rattle.sheets.proofs.names.find.Tie as tie

@@ -1,6 +1,7 @@
 use mathlib.Core.Path.{refl, sym, _∙_}
 use mathlib.Core.List.{[], _∷_}
 use Rattle.tokens.specs.declared.Token.{Token}
+use Rattle.terms.specs.Terms.{ascii}
 use Rattle.tokens.specs.Keywords.{keywords}
 use Rattle.tokens.specs.inner.ByLength.{keep, ofLength}
 use Rattle.tokens.proofs.WordLaws.{lengths, of-length, only-key, no-length}
@@ -57,7 +58,7 @@ key-requires-5 : tie.Need-key-requires-5
 key-requires-5 c κs = search needs
 
 returns : tie.Need-returns
-unfolding keywords ofLength keep
+unfolding keywords ascii ofLength keep
 returns c = c .key .ensures ∙ only-key 1 (95 ∷ []) Token.Underscore _ refl (c .before .before .match .keys1)
 
 returns-2 : tie.Need-returns-2
@@ -79,19 +80,19 @@ returns-7 : tie.Need-returns-7
 returns-7 c = c .keyword-of-seven .ensures ∙ sym (of-length 7 _ (c .before .match .keys7))
 
 returns-8 : tie.Need-returns-8
-unfolding keywords ofLength keep
+unfolding keywords ascii ofLength keep
 returns-8 c = c .key2 .ensures ∙ only-key 8 (114 ∷ 101 ∷ 115 ∷ 111 ∷ 117 ∷ 114 ∷ 99 ∷ 101 ∷ []) Token.Resource _ refl (c .before .before .match .keys8)
 
 returns-9 : tie.Need-returns-9
-unfolding keywords ofLength keep
+unfolding keywords ascii ofLength keep
 returns-9 c = c .key3 .ensures ∙ only-key 9 (105 ∷ 110 ∷ 116 ∷ 101 ∷ 114 ∷ 102 ∷ 97 ∷ 99 ∷ 101 ∷ []) Token.Interface _ refl (c .before .before .match .keys9)
 
 returns-10 : tie.Need-returns-10
-unfolding keywords ofLength keep
+unfolding keywords ascii ofLength keep
 returns-10 c = c .key4 .ensures ∙ only-key 11 (99 ∷ 111 ∷ 110 ∷ 115 ∷ 116 ∷ 114 ∷ 117 ∷ 99 ∷ 116 ∷ 111 ∷ 114 ∷ []) Token.Constructor _ refl (c .before .before .match .keys10)
 
 returns-11 : tie.Need-returns-11
-unfolding keywords ofLength keep
+unfolding keywords ascii ofLength keep
 returns-11 c = c .key5 .ensures ∙ only-key 13 (101 ∷ 114 ∷ 114 ∷ 111 ∷ 114 ∷ 45 ∷ 99 ∷ 111 ∷ 110 ∷ 116 ∷ 101 ∷ 120 ∷ 116 ∷ []) Token.ErrorContext _ refl (c .before .before .match .keys11)
 
 returns-12 : tie.Need-returns-12

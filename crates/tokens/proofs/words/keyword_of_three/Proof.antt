@@ -1,4 +1,5 @@
 use mathlib.Core.Path.{_∙_}
+use Rattle.terms.specs.Terms.{ascii}
 use Rattle.tokens.specs.Keywords.{keywords}
 use Rattle.tokens.proofs.WordLaws.{key-then, key-none}
 use Rattle.tokens.specs.inner.ByLength.{keep, ofLength}
@@ -73,7 +74,7 @@ key-requires-11 : tie.Need-key-requires-11
 key-requires-11 c κs = search needs
 
 returns : tie.Need-returns
-unfolding keywords ofLength keep
+unfolding keywords ascii ofLength keep
 returns c = c .key11 .ensures ∙ key-then _ _ _ _ (c .before .before .key10 .ensures ∙ key-then _ _ _ _ (c .before .before .before .before .key9 .ensures ∙ key-then _ _ _ _ (c .before .before .before .before .before .before .key8 .ensures ∙ key-then _ _ _ _ (c .before .before .before .before .before .before .before .before .key7 .ensures ∙ key-then _ _ _ _ (c .before .before .before .before .before .before .before .before .before .before .key6 .ensures ∙ key-then _ _ _ _ (c .before .before .before .before .before .before .before .before .before .before .before .before .key5 .ensures ∙ key-then _ _ _ _ (c .before .before .before .before .before .before .before .before .before .before .before .before .before .before .key4 .ensures ∙ key-then _ _ _ _ (c .before .before .before .before .before .before .before .before .before .before .before .before .before .before .before .before .key3 .ensures ∙ key-then _ _ _ _ (c .before .before .before .before .before .before .before .before .before .before .before .before .before .before .before .before .before .before .key2 .ensures ∙ key-then _ _ _ _ (c .before .before .before .before .before .before .before .before .before .before .before .before .before .before .before .before .before .before .before .before .key .ensures ∙ key-then _ _ _ _ (key-none _)))))))))))
 
 pub keyword-of-three-spec : {M : Type 1} → statement M

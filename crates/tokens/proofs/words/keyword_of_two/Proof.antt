@@ -1,4 +1,5 @@
 use mathlib.Core.Path.{_∙_}
+use Rattle.terms.specs.Terms.{ascii}
 use Rattle.tokens.specs.Keywords.{keywords}
 use Rattle.tokens.proofs.WordLaws.{key-then, key-none}
 use Rattle.tokens.specs.inner.ByLength.{keep, ofLength}
@@ -25,7 +26,7 @@ key-requires-3 : tie.Need-key-requires-3
 key-requires-3 c κs = search needs
 
 returns : tie.Need-returns
-unfolding keywords ofLength keep
+unfolding keywords ascii ofLength keep
 returns c = c .key3 .ensures ∙ key-then _ _ _ _ (c .before .before .key2 .ensures ∙ key-then _ _ _ _ (c .before .before .before .before .key .ensures ∙ key-then _ _ _ _ (key-none _)))
 
 pub keyword-of-two-spec : {M : Type 1} → statement M
