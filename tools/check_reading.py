@@ -1,5 +1,6 @@
 #!/usr/bin/env python3
-"""docs/READING.md names every public function of the libraries and every definition file, and its links lead somewhere. Prints what is missing; exit 1 then.
+"""docs/READING.md names every public function of the libraries and every definition file, its links lead somewhere, and the definitions
+stay short. Prints what is missing; exit 1 then.
 
 A public function is one that another crate can call: `pub fn` in lib.rt or in an `impl` there, or one that lib.rt hands on with `pub use`.
 """
@@ -9,6 +10,7 @@ import sys
 
 TOP = pathlib.Path(__file__).resolve().parent.parent
 CRATES = TOP / "crates"
+MOST_LINES = 600  # of definitions that a reviewer reads
 
 
 def public(crate):
@@ -20,17 +22,29 @@ def public(crate):
     yield from handed
 
 
+def lines_of(spec):
+    """The lines of a definition file without blanks, comments, imports and signatures."""
+    plain = (line.strip() for line in spec.read_text(encoding="utf-8").splitlines())
+    return sum(bool(line) and not re.match(r"--|use |infix|((unfoldable|abbrev) )?pub \S+ :", line) for line in plain)
+
+
 def main():
     page = (TOP / "docs/READING.md").read_text(encoding="utf-8")
     missing = []
+    lines = 0
     for crate in sorted(CRATES.iterdir()):
         if (crate / "src/lib.rt").is_file():
             for name in public(crate):
                 if f"`{name}`" not in page and f"`{crate.name}::{name}`" not in page:
                     missing.append(f"public function {crate.name}::{name}")
         for spec in sorted(crate.glob("specs/*.antt")):
-            if spec.stem not in ("Lib", "inner") and f"../crates/{crate.name}/specs/{spec.name}" not in page:
+            if spec.stem in ("Lib", "inner"):
+                continue
+            lines += lines_of(spec)
+            if f"../crates/{crate.name}/specs/{spec.name}" not in page:
                 missing.append(f"definition file {spec.relative_to(TOP)}")
+    if lines >= MOST_LINES:
+        missing.append(f"shorter definitions: they have {lines} lines, and should have under {MOST_LINES}")
     for page_path in (TOP / "docs").glob("*.md"):
         for link in re.findall(r"\]\((?!http)([^)#]+)", page_path.read_text(encoding="utf-8")):
             if not (page_path.parent / link).exists():
@@ -41,7 +55,7 @@ def main():
     for edit in re.findall(r"`(\w+/must-fail/[\w.]+)`", page):
         if not (CRATES / edit).is_file():
             missing.append(f"wrong edit {edit}")
-    print("\n".join(f"docs/READING.md lacks: {what}" for what in missing) or "docs/READING.md: every public function and definition file is there")
+    print("\n".join(f"docs/READING.md lacks: {what}" for what in missing) or f"docs/READING.md: every public function and definition file is there; {lines} lines of definitions")
     sys.exit(bool(missing))
 
 
