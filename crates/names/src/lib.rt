@@ -1,4 +1,5 @@
 //! Identifiers: plain and explicit, as a part of the caller's own text.
+mod one_case;
 mod parts;
 mod spans;
 

@@ -112,8 +112,8 @@ pub fn run(call: &Call, lent: &mut Lent) -> Numbers {
     }
 }
 
-/// The same over plain slices.
-#[inline]
+/// The same over plain slices. Inlined, so that where the call is known nothing but the library's own work is left.
+#[inline(always)]
 pub fn run_on(call: &Call, words: &mut [u32], bytes: &mut [u8]) -> Numbers {
     let (text, length, offset) = (call.bytes.as_ptr(), call.bytes.len(), call.offset);
     let mut cursor = Cursor { at: call.from };
