@@ -1,6 +1,8 @@
 -- The laws of the character rules, for the rooms above.
 pub mod Utf8Laws
 pub mod ViewLaws
+pub mod SeekLaws
+pub mod PlainLaws
 pub mod ScreeningLaws
 pub mod EncodeLaws
 pub mod RoundTrip

@@ -13,6 +13,7 @@ use Rattle.terms.proofs.OneAnswer.{OneAnswer, OneOutcome, agree}
 use Rattle.chars.proofs.byte_at
 use Rattle.chars.proofs.lead_of
 use Rattle.chars.proofs.read_at
+use Rattle.chars.proofs.single_at
 use Rattle.chars.proofs.folded_at
 use Rattle.chars.proofs.detect_invalid_input
 use Rattle.chars.proofs.offence_of
@@ -24,6 +25,7 @@ use Rattle.chars.proofs.to_hex
 use Rattle.chars.proofs.is_scalar
 use Rattle.chars.proofs.width
 use Rattle.chars.proofs.run_end
+use Rattle.chars.proofs.plain_end
 use Rattle.chars.proofs.encode
 
 module _ {M : Type 1} (𝓤 : URA M) (H : Heap 𝓤) (A : Atoms 𝓤) (mem : Memory → SProp 𝓤) (run : Routine → Fun 𝓤) where
@@ -35,6 +37,9 @@ module _ {M : Type 1} (𝓤 : URA M) (H : Heap 𝓤) (A : Atoms 𝓤) (mem : Mem
 
   pub read-at-one : OneAnswer 𝓤 read_at.ended (read_at.clauses 𝓤 H A mem run)
   read-at-one κs a g z z′ e e′ = agree 𝓤
+
+  pub single-at-one : OneAnswer 𝓤 single_at.ended (single_at.clauses 𝓤 H A mem run)
+  single-at-one κs a g z z′ e e′ = agree 𝓤
 
   pub folded-at-one : OneAnswer 𝓤 folded_at.ended (folded_at.clauses 𝓤 H A mem run)
   folded-at-one κs a g z z′ e e′ = agree 𝓤
@@ -68,6 +73,9 @@ module _ {M : Type 1} (𝓤 : URA M) (H : Heap 𝓤) (A : Atoms 𝓤) (mem : Mem
 
   pub run-end-one : OneAnswer 𝓤 run_end.ended (run_end.clauses 𝓤 H A mem run)
   run-end-one κs a g z z′ e e′ = agree 𝓤
+
+  pub plain-end-one : OneAnswer 𝓤 plain_end.ended (plain_end.clauses 𝓤 H A mem run)
+  plain-end-one κs a g z z′ e e′ = agree 𝓤
 
   -- the count, and the buffer
   pub encode-one : OneOutcome 𝓤 encode.ended (λ κs. ℕ × List ℕ) (λ κs z e. (z, now (e .1 .0))) (encode.clauses 𝓤 H A mem run)

@@ -6,10 +6,10 @@ use mathlib.Core.List.{List}
 use native.Mathlib.Omega.{arith}
 use lib.Dec.{ltb, eqb}
 use lib.ListN.{length, getD}
-use borrow.Author.Tests.{ltb-true, eqb-true, eqb-false, not-false}
+use borrow.Author.Tests.{ltb-true, eqb-true, eqb-false, not-true, not-false}
 use Rattle.terms.specs.Terms.{if_then_else_, first}
 use Rattle.terms.proofs.TestLaws.{and-both, clash}
-use Rattle.terms.proofs.FirstLaws.{first-le, first-from, none-before}
+use Rattle.terms.proofs.FirstLaws.{first-le, first-from, first-passes}
 use Rattle.answers.specs.declared.Place.{Place}
 use Rattle.answers.specs.Places.{place}
 use Rattle.answers.specs.Caps.{cap}
@@ -19,7 +19,8 @@ use Rattle.chars.specs.inner.Runs.{inSet, stopsAt, runEnd}
 use Rattle.chars.specs.declared.AsciiSet.{AsciiSet}
 use Rattle.chars.specs.declared.Read.the-variants.{Char}
 use Rattle.chars.proofs.Utf8Laws.{ascii-at}
-use Rattle.chars.proofs.ViewLaws.{folded-ascii-at, strides}
+use Rattle.chars.proofs.ViewLaws.{folded-ascii-at}
+use Rattle.chars.proofs.SeekLaws.{seek-steps}
 
 -- the bytes of a set are below 0x80
 in-set-low : (set : AsciiSet) (b : ℕ) → inSet set b ≡ true → b < 0x80
@@ -42,24 +43,19 @@ module _ (s : List ℕ) (set : AsciiSet) (p : Place) where
   unfolding runEnd
   run-inside h = omega (arith, first-le (stopsAt s set) (min (length s) cap - p .0) (p .0))
 
-  run-limit : runEnd s set p .0 ≤ p .0 + (min (length s) cap - p .0)
-  unfolding runEnd
-  run-limit = first-le (stopsAt s set) (min (length s) cap - p .0) (p .0)
-
-  member : (i : ℕ) → i < runEnd s set p .0 - p .0 → inSet set (byteAt s (onBy i p)) ≡ true
+  -- the byte that ends a run is not of the set
+  pub run-stops : runEnd s set p .0 < length s → runEnd s set p .0 < cap → inSet set (byteAt s (runEnd s set p)) ≡ false
   unfolding runEnd byteAt
-  member i h = not-false _ (none-before (stopsAt s set) (min (length s) cap - p .0) (p .0) (p .0 + i) (omega arith) (omega arith))
+  run-stops h k =
+      not-true _ (first-passes (stopsAt s set) (min (length s) cap - p .0) (p .0)
+      (omega (arith, first-from (stopsAt s set) (min (length s) cap - p .0) (p .0))))
 
   -- THE LAW: what no byte of the set changes, the whole run does not change
   run-steps : {A : Type 0} (F : Place → A)
       → ((q : Place) → inSet set (byteAt s q) ≡ true → q .0 < length s → q .0 < cap → F q ≡ F (onBy 1 q)) → F p ≡ F (runEnd s set p)
-  run-steps F one = strides F p (runEnd s set p .0 - p .0) turn ∙ ap (λ (n : ℕ). F (place n)) back
-    where
-      back : p .0 + (runEnd s set p .0 - p .0) ≡ runEnd s set p .0
-      back = omega (arith, run-beyond)
-
-      turn : (i : ℕ) → i < runEnd s set p .0 - p .0 → F (onBy i p) ≡ F (onBy 1 (onBy i p))
-      turn i h = one (onBy i p) (member i h) (omega (arith, run-limit)) (omega (arith, run-limit))
+  unfolding runEnd byteAt
+  run-steps F one =
+      seek-steps (stopsAt s set) F p (min (length s) cap - p .0) (λ i l e. one (onBy i p) (not-false _ e) (omega arith) (omega arith))
 
   -- with each byte as the character that it is, as the text stands
   pub run-strides-plain : {A : Type 0} (F : Place → A)
@@ -79,7 +75,7 @@ unfoldable pub allBelow : ℕ → (ℕ → Bool) → Bool
 allBelow zero test = true
 allBelow (suc n) test = test n && allBelow n test
 
-below : (n : ℕ) (test : ℕ → Bool) → allBelow n test ≡ true → (b : ℕ) → b < n → test b ≡ true
+pub below : (n : ℕ) (test : ℕ → Bool) → allBelow n test ≡ true → (b : ℕ) → b < n → test b ≡ true
 unfolding allBelow
 below zero test e b h = absurd (omega arith)
 below (suc n) test e b h = go (eqb b n) refl (below n test (parts .1) b)

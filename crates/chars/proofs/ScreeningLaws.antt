@@ -1,36 +1,31 @@
 -- The one walk of `specs/inner/OneWalk.antt`: it gives what `invalidInput` says, and its turns.
-use Prim.Native.Nat.{ℕ, zero, suc, _+_, _≤_, _<_}
+use Prim.Native.Nat.{ℕ}
 use mathlib.Core.Path.{_≡_, refl, sym, ap, _∙_}
-use mathlib.Core.Bool.{Bool, true, false, not, _&&_, _||_}
+use mathlib.Core.Bool.{Bool, true, false, _||_}
 use mathlib.Core.List.{List, [], _∷_}
 use mathlib.Core.Logic.{⊎-elim}
-use native.Mathlib.Omega.{arith}
-use native.Mathlib.Numerals.{add-one}
-use native.Mathlib.Nat.{add-zero}
-use lib.Dec.{leb, eqb}
-use lib.ListN.{length, getD, take, drop}
-use borrow.Author.Tests.{leb-true, eqb-true, ne-eqb, not-false, lt-leb}
-use Rattle.terms.specs.Terms.{if_then_else_, within, count, said}
-use Rattle.terms.proofs.TestLaws.{and-both, or-either, within-true, within-yes, within-below, within-above}
+use lib.Dec.{eqb}
+use borrow.Author.Tests.{eqb-true}
+use Rattle.terms.specs.Terms.{if_then_else_, within, said}
+use Rattle.terms.proofs.TestLaws.{or-either, within-true}
 use Rattle.terms.proofs.TableLaws.{in-match, word, isKey, isKeys, up, down}
-use Rattle.terms.proofs.CountLaws.{count-part-none}
 use Rattle.answers.specs.declared.Place.{Place}
 use Rattle.answers.specs.declared.Ill.{Ill as Sequence}
 use Rattle.answers.specs.declared.Verdict.{Verdict}
 use Rattle.answers.specs.declared.Verdict.the-variants.{Accepted, Refused}
 use Rattle.answers.specs.declared.Refusal.the-variants.{IllFormed}
 use Rattle.answers.specs.Places.{place}
-use Rattle.answers.specs.Caps.{cap}
 use Rattle.chars.specs.Utf8.{byteAt, onBy, charAt}
 use Rattle.chars.specs.View.{Chars, end, ill, char, charsFrom}
 use Rattle.answers.specs.Caps.{firstOf}
 use Rattle.chars.specs.Screening.{offences, offenceOf, screenedBy, screened, wellFormed, invalidInput}
-use Rattle.chars.specs.inner.OneWalk.{isPlain, isOdd, plainFrom, sooner, judged}
+use Rattle.chars.specs.inner.OneWalk.{sooner, judged}
+use Rattle.chars.specs.inner.Plain.{isPlain, plainEnd}
 use Rattle.chars.specs.declared.Read.the-variants.{End, Ill, Char}
 use Rattle.chars.specs.declared.Offence.{Offence}
 use Rattle.chars.specs.declared.Offence.the-variants.{None, Control, Deprecated, Forbidden}
-use Rattle.chars.proofs.Utf8Laws.{ascii-at}
-use Rattle.chars.proofs.ViewLaws.{chars-end, chars-ill, chars-char, strides}
+use Rattle.chars.proofs.ViewLaws.{chars-end, chars-ill, chars-char}
+use Rattle.chars.proofs.PlainLaws.{plain-strides}
 
 nothing-more : (v : Verdict) → firstOf v Accepted ≡ v
 unfolding firstOf
@@ -73,16 +68,7 @@ module _ (s : List ℕ) (p : Place) (soFar : Verdict) where
   unfolding judged
   walk-char c n e = rw (chars-char s p c n e)
 
--- a plain byte is below 0x80, and no offence
-plain-low : (b : ℕ) → isPlain b ≡ true → b < 0x80
-unfolding isPlain
-plain-low b h =
-    ⊎-elim (λ w. let z = within-true 0x20 0x7E b w in omega arith)
-    (λ w. ⊎-elim (λ e. let z = eqb-true b 9 e in omega arith)
-    (λ u. ⊎-elim (λ e. let z = eqb-true b 10 e in omega arith) (λ e. let z = eqb-true b 13 e in omega arith) (or-either (eqb b 10) (eqb b 13) u))
-    (or-either (eqb b 9) (eqb b 10 || eqb b 13) w))
-    (or-either (within 0x20 0x7E b) (eqb b 9 || (eqb b 10 || eqb b 13)) h)
-
+-- a plain byte is no offence
 plain-fine : (b : ℕ) → isPlain b ≡ true → offenceOf b ≡ None
 unfolding isPlain offenceOf offences said within word isKey isKeys up down
 plain-fine b h =
@@ -96,32 +82,10 @@ sooner-plain : (soFar : Verdict) (p : Place) (b : ℕ) → isPlain b ≡ true �
 unfolding sooner screenedBy
 sooner-plain soFar p b h = rw (plain-fine b h) (nothing-more soFar)
 
-pub plain-from-fits : (s : List ℕ) (k : ℕ) → plainFrom s k ≡ true → (k + 64 ≤ length s) × (k + 64 ≤ cap)
-unfolding plainFrom
-plain-from-fits s k h =
-    let a = and-both (leb (k + 64) (length s)) (leb (k + 64) cap && eqb (count isOdd (take 64 (drop k s))) 0) h in
-    let b = and-both (leb (k + 64) cap) (eqb (count isOdd (take 64 (drop k s))) 0) (a .1) in
-    (leb-true _ _ (a .0), leb-true _ _ (b .0))
-
--- 64 plain bytes change nothing
-pub walk-plain : (s : List ℕ) (p : Place) (soFar : Verdict) → plainFrom s (p .0) ≡ true
-    → judged soFar (charsFrom s p) ≡ judged soFar (charsFrom s (onBy 64 p))
-unfolding plainFrom byteAt
-walk-plain s p soFar h = strides (λ (q : Place). judged soFar (charsFrom s q)) p 64 one
-  where
-    fits : (p .0 + 64 ≤ length s) × (p .0 + 64 ≤ cap)
-    fits = plain-from-fits s (p .0) h
-
-    none : count isOdd (take 64 (drop (p .0) s)) ≡ 0
-    none =
-        let a = and-both (leb (p .0 + 64) (length s)) (leb (p .0 + 64) cap && eqb (count isOdd (take 64 (drop (p .0) s))) 0) h in
-        let b = and-both (leb (p .0 + 64) cap) (eqb (count isOdd (take 64 (drop (p .0) s))) 0) (a .1) in eqb-true _ _ (b .1)
-
-    plain : (i : ℕ) → i < 64 → isPlain (byteAt s (onBy i p)) ≡ true
-    plain i l = not-false _ (count-part-none isOdd s (p .0) 64 0 (fits .0) none i l)
-
-    one : (i : ℕ) → i < 64 → judged soFar (charsFrom s (onBy i p)) ≡ judged soFar (charsFrom s (onBy 1 (onBy i p)))
-    one i l =
-        walk-char s (onBy i p) soFar (byteAt s (onBy i p)) (onBy 1 (onBy i p))
-        (ascii-at s (onBy i p) (omega (arith, fits)) (omega (arith, fits)) (plain-low _ (plain i l)))
-        ∙ ap (λ (v : Verdict). judged v (charsFrom s (onBy 1 (onBy i p)))) (sooner-plain soFar (onBy i p) _ (plain i l))
+-- plain text changes nothing
+pub walk-plain : (s : List ℕ) (x y z : ℕ) (p : Place) (soFar : Verdict)
+    → judged soFar (charsFrom s p) ≡ judged soFar (charsFrom s (plainEnd s x y z p))
+walk-plain s x y z p soFar =
+    plain-strides s x y z p (λ (q : Place). judged soFar (charsFrom s q)) (λ q h e.
+    walk-char s q soFar (byteAt s q) (onBy 1 q) e
+    ∙ ap (λ (v : Verdict). judged v (charsFrom s (onBy 1 q))) (sooner-plain soFar q _ h))

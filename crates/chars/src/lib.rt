@@ -2,6 +2,7 @@
 //! The token rules rest on these promises alone.
 mod classes;
 mod encoding;
+mod plain;
 mod reading;
 mod runs;
 mod screening;
@@ -16,10 +17,12 @@ pub use classes::xid_start;
 pub use encoding::encode;
 pub use encoding::is_scalar;
 pub use encoding::width;
+pub use plain::plain_end;
 pub use reading::byte_at;
 pub use reading::folded_at;
 pub use reading::lead_of;
 pub use reading::read_at;
+pub use reading::single_at;
 pub use runs::run_end;
 pub use screening::detect_invalid_input;
 pub use screening::offence_of;

@@ -10,6 +10,7 @@ ghost use Rattle.terms.specs.Terms.{within};
 ghost use Rattle.answers.specs.Caps.{cap};
 ghost use Rattle.chars.specs.Utf8.{byteAt, onBy, leadOf, isTail, charBy, charAt};
 ghost use Rattle.chars.specs.View.{foldedAt};
+ghost use Rattle.chars.specs.inner.Plain.{singleAt};
 
 // The byte at a place, 0 past the end.
 pub fn byte_at(text: &[u8], at: Place) -> u32
@@ -128,8 +129,25 @@ pub fn read_at(text: &[u8], at: Place) -> Read
     }
 }
 
-// The same, with a carriage return directly followed by the byte of a newline read as one newline.
-pub fn folded_at(text: &[u8], at: Place) -> Read
+// What stands at a place is one byte that no folding changes: below 0x80, and no carriage return.
+pub fn single_at(text: &[u8], at: Place) -> bool
+    ensures { λ r. ⌜ r ≡ singleAt (now (text .entry)) at ⌝ }
+{
+    let k = at.0 as usize;
+    if text.len() <= k {
+        return false;
+    }
+    if 65536 <= k {
+        return false;
+    }
+    if text[k] == 13 {
+        return false;
+    }
+    text[k] < 0x80
+}
+
+// What stands at a place, with a carriage return directly followed by the byte of a newline read as one newline.
+fn any_folded_at(text: &[u8], at: Place) -> Read
     ensures { λ r. ⌜ r ≡ foldedAt (now (text .entry)) at ⌝ }
 {
     match read_at(text, at) {
@@ -144,4 +162,14 @@ pub fn folded_at(text: &[u8], at: Place) -> Read
             Read::Char(c, next)
         }
     }
+}
+
+// The same. Most characters are bytes that read as themselves, so that comes first.
+pub fn folded_at(text: &[u8], at: Place) -> Read
+    ensures { λ r. ⌜ r ≡ foldedAt (now (text .entry)) at ⌝ }
+{
+    if single_at(text, at) {
+        return Read::Char(byte_at(text, at), Place(at.0 + 1));
+    }
+    any_folded_at(text, at)
 }

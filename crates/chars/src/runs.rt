@@ -15,13 +15,13 @@ fn has(set: AsciiSet, b: u32) -> bool
         return (set.low >> b) % 2 == 1;
     }
     if b < 128 {
-        return (set.high >> (b - 64)) % 2 == 1;
+        return (set.high >> (b % 64)) % 2 == 1;
     }
     false
 }
 
 // The place behind the last byte that is read.
-fn limit(text: &[u8]) -> usize
+pub(crate) fn limit(text: &[u8]) -> usize
     ensures { λ r. ⌜ r ≡ min (length (now (text .entry))) cap ⌝ }
 {
     if text.len() < 65536 {

@@ -1,14 +1,13 @@
 -- A comment's turns, the bytes that it passes over at once, and where it ends.
 use Prim.Native.Nat.{ℕ, _+_, _-_, _≤_, _<_}
 use mathlib.Core.Path.{_≡_, refl, sym, ap, _∙_}
-use mathlib.Core.Bool.{Bool, true, false, not, _&&_, _||_}
+use mathlib.Core.Bool.{Bool, true, false}
 use mathlib.Core.List.{List}
 use native.Mathlib.Omega.{arith}
 use lib.ListN.{length}
 use lib.Dec.{eqb}
-use borrow.Author.Tests.{eq-eqb, ne-eqb, eqb-true, eqb-false, not-true}
+use borrow.Author.Tests.{eq-eqb, ne-eqb, eqb-true, eqb-false}
 use Rattle.terms.specs.Terms.{if_then_else_}
-use Rattle.terms.proofs.TestLaws.{and-both}
 use Rattle.answers.specs.declared.Place.{Place}
 use Rattle.answers.specs.declared.Position.{Position}
 use Rattle.answers.specs.declared.Ill.{Ill as Sequence}
@@ -17,14 +16,14 @@ use Rattle.answers.specs.Caps.{cap}
 use Rattle.chars.specs.declared.Read.the-variants.{End, Ill, Char}
 use Rattle.chars.specs.Utf8.{byteAt, onBy}
 use Rattle.chars.specs.View.{Chars, end, ill, char, placeOf, foldedAt, foldedFrom}
-use Rattle.chars.specs.inner.Runs.{inSet, runEnd}
+use Rattle.chars.specs.inner.Plain.{plainEnd}
 use Rattle.chars.proofs.ViewLaws.{Ordered, folded-end, folded-ill, folded-char, folded-place, folded-ordered, ordered-place}
-use Rattle.chars.proofs.RunLaws.{run-strides, run-beyond, allBelow, each-of-set}
+use Rattle.chars.proofs.PlainLaws.{Passes, plain-beyond, plain-folded}
 use Rattle.tokens.specs.declared.Block.{Block}
 use Rattle.tokens.specs.declared.Ran.{Ran}
 use Rattle.tokens.specs.declared.Ran.the-variants.{To, Stopped}
 use Rattle.tokens.specs.Comments.{lineComment, seen, blockTurn, blockOn, blockComment}
-use Rattle.tokens.specs.inner.Runs.{lineSet, blockSet, passedBy, depthOf, Sound}
+use Rattle.tokens.specs.inner.Runs.{passedBy, depthOf, Sound}
 use Rattle.tokens.proofs.RunLaws.{to-is, stopped-not}
 
 module _ (s : List ℕ) (p : Place) where
@@ -45,20 +44,11 @@ module _ (s : List ℕ) (p : Place) where
     unfolding lineComment
     line-other h = rw (folded-char s p c n e, ne-eqb c 10 h)
 
--- no byte of the line's set is a newline, which is computed over all of them
-line-set : allBelow 128 (λ b. not (inSet lineSet b) || not (eqb b 10)) ≡ true
-unfolding allBelow inSet
-line-set = refl
-
-no-return : inSet lineSet 13 ≡ false
-unfolding inSet
-no-return = refl
-
-pub line-passes : (s : List ℕ) (p : Place) → lineComment (foldedFrom s p) ≡ lineComment (foldedFrom s (runEnd s lineSet p))
+-- plain text without a newline goes on with it
+pub line-passes : (s : List ℕ) (p : Place) → lineComment (foldedFrom s p) ≡ lineComment (foldedFrom s (plainEnd s 10 10 13 p))
 line-passes s p =
-    run-strides s lineSet p (λ (q : Place). lineComment (foldedFrom s q)) no-return
-    (λ q m e. line-other s q (byteAt s q) (onBy 1 q) e
-    (eqb-false _ 10 (not-true _ (each-of-set lineSet (λ (b : ℕ). not (eqb b 10)) line-set _ m))))
+    plain-folded s 10 10 13 p (λ (q : Place). lineComment (foldedFrom s q)) refl
+    (λ q m e. line-other s q (byteAt s q) (onBy 1 q) e (eqb-false _ 10 (m .not-x)))
 
 line-reaches : (len : ℕ) (v : Chars) (p : Place) → Ordered len p v → p .0 ≤ len
     → (n : Place) → lineComment v ≡ To n → (p .0 ≤ n .0) × (n .0 ≤ len)
@@ -108,29 +98,19 @@ module _ (q : Position) (b : Block) (s : List ℕ) (p : Place) where
         go (Block.Star d) h = refl
         go Block.Closed h = absurd (h refl)
 
--- no byte of the block's set begins a pair
-block-set : allBelow 128 (λ b. not (inSet blockSet b) || (not (eqb b 47) && not (eqb b 42))) ≡ true
-unfolding allBelow inSet
-block-set = refl
-
-no-return-either : inSet blockSet 13 ≡ false
-unfolding inSet
-no-return-either = refl
-
+-- plain text without `/` and `*` begins no pair
 other-not-closed : {d : ℕ} → Block.Other d ≡ Block.Closed → ⊥
 other-not-closed e = let z : _≡_ {A = ℕ} 0 1 = cc in omega arith
 
-stays : (d c : ℕ) → inSet blockSet c ≡ true → blockTurn (Block.Other d) c ≡ Block.Other d
+stays : (d c : ℕ) → Passes 47 42 13 c → blockTurn (Block.Other d) c ≡ Block.Other d
 unfolding blockTurn seen
-stays d c m =
-    let a = and-both (not (eqb c 47)) (not (eqb c 42)) (each-of-set blockSet (λ (b : ℕ). not (eqb b 47) && not (eqb b 42)) block-set c m) in
-    rw (not-true (eqb c 47) (a .0), not-true (eqb c 42) (a .1))
+stays d c m = rw (m .not-x, m .not-y)
 
 pub block-passes : (q : Position) (b : Block) (s : List ℕ) (p : Place)
     → blockComment q b (foldedFrom s p) ≡ blockComment q b (foldedFrom s (passedBy b s p))
 unfolding passedBy
 block-passes q (Block.Other d) s p =
-    run-strides s blockSet p (λ (r : Place). blockComment q (Block.Other d) (foldedFrom s r)) no-return-either
+    plain-folded s 47 42 13 p (λ (r : Place). blockComment q (Block.Other d) (foldedFrom s r)) refl
     (λ r m e.
     block-open q (Block.Other d) s r (byteAt s r) (onBy 1 r) e (λ z. other-not-closed (sym (stays d _ m) ∙ z))
     ∙ ap (λ (a : Block). blockComment q a (foldedFrom s (onBy 1 r))) (stays d _ m))
@@ -140,7 +120,7 @@ block-passes q Block.Closed s p = refl
 
 pub passed-beyond : (b : Block) (s : List ℕ) (p : Place) → p .0 ≤ passedBy b s p .0
 unfolding passedBy
-passed-beyond (Block.Other d) s p = run-beyond s blockSet p
+passed-beyond (Block.Other d) s p = plain-beyond s 47 42 13 p
 passed-beyond (Block.Slash d) s p = omega arith
 passed-beyond (Block.Star d) s p = omega arith
 passed-beyond Block.Closed s p = omega arith

@@ -21,7 +21,9 @@ use Rattle.chars.specs.View.{Chars, end, ill, char, placeOf, foldedAt, foldedFr
 use Rattle.chars.specs.Classes.{xidStarts, xidStart, xidContinue, keylikeContinue}
 use Rattle.chars.specs.inner.Runs.{inSet, runEnd}
 use Rattle.chars.proofs.ViewLaws.{Ordered, folded-end, folded-ill, folded-char, folded-ordered}
-use Rattle.chars.proofs.RunLaws.{run-strides, allBelow, each-of-set}
+use Rattle.chars.specs.inner.Plain.{singleAt}
+use Rattle.chars.proofs.RunLaws.{run-strides, run-stops, allBelow, below, each-of-set}
+use Rattle.chars.proofs.PlainLaws.{single-is, single-stands}
 use Rattle.tokens.specs.declared.Ran.{Ran}
 use Rattle.tokens.specs.declared.Ran.the-variants.{To, Stopped}
 use Rattle.tokens.specs.declared.Run.{Run}
@@ -84,6 +86,39 @@ pub run-passes : (r : Run) (o : ℕ) (s : List ℕ) (p : Place)
 run-passes r o s p =
     run-strides s (setOf r) p (λ (q : Place). run (classOf r) o (foldedFrom s q)) (no-return r)
     (λ q m e. run-inside (classOf r) o s q (byteAt s q) (onBy 1 q) e (inside-is _ (each-of-set (setOf r) (λ (b : ℕ). isInside (classOf r b)) (all-inside r) _ m)))
+
+-- a byte below 0x80 that is not of the set is outside the class, so a run ends there
+isOutside : Class → Bool
+isOutside Inside = false
+isOutside Outside = true
+isOutside Unknown = false
+
+outside-is : (k : Class) → isOutside k ≡ true → k ≡ Outside
+unfolding isOutside
+outside-is Inside e = absurd (clash false e refl)
+outside-is Outside e = refl
+outside-is Unknown e = absurd (clash false e refl)
+
+all-outside : (r : Run) → allBelow 128 (λ b. inSet (setOf r) b || isOutside (classOf r b)) ≡ true
+unfolding allBelow inSet setOf isOutside classOf blank digit keylikeContinue xidContinue xidStart xidStarts said within
+all-outside Run.Blanks = refl
+all-outside Run.Digits = refl
+all-outside Run.Keylike = refl
+
+outside : (r : Run) (b : ℕ) → b < 128 → inSet (setOf r) b ≡ false → classOf r b ≡ Outside
+outside r b l e = outside-is _ (go (inSet (setOf r) b) e (below 128 (λ (x : ℕ). inSet (setOf r) x || isOutside (classOf r x)) (all-outside r) b l))
+  where
+    go : (t : Bool) → t ≡ false → (t || isOutside (classOf r b)) ≡ true → isOutside (classOf r b) ≡ true
+    go true e w = absurd (clash true refl e)
+    go false e w = w
+
+pub run-ends : (r : Run) (o : ℕ) (s : List ℕ) (p : Place) → singleAt s (runEnd s (setOf r) p) ≡ true
+    → run (classOf r) o (foldedFrom s p) ≡ To (runEnd s (setOf r) p)
+run-ends r o s p e =
+    let i = single-is s (runEnd s (setOf r) p) e in
+    run-passes r o s p
+    ∙ run-outside (classOf r) o s (runEnd s (setOf r) p) (byteAt s (runEnd s (setOf r) p)) (onBy 1 (runEnd s (setOf r) p)) (single-stands s _ e)
+    (outside r _ (i .low) (run-stops s (setOf r) p (i .inside) (i .capped)))
 
 -- a run ends not before its start, and within the text
 pub to-is : {n m : Place} → To n ≡ To m → n ≡ m

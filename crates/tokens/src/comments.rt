@@ -4,13 +4,11 @@ use crate::Ran;
 use answers::Place;
 use answers::Position;
 use answers::Refusal;
-use chars::AsciiSet;
 use chars::Read;
 ghost use mathlib.Core.Path.{_≡_};
 ghost use Rattle.chars.specs.View.{foldedFrom};
 ghost use Rattle.tokens.specs.Comments.{lineComment, seen, blockTurn, blockComment};
-ghost use Rattle.tokens.specs.inner.Runs.{lineSet, blockSet, Sound, passedBy};
-ghost use Rattle.chars.specs.inner.Runs.{runEnd};
+ghost use Rattle.tokens.specs.inner.Runs.{Sound, passedBy};
 
 // Behind `//`: up to and with the next newline, or to the end.
 pub(crate) fn line_comment(text: &[u8], from: Place) -> Ran
@@ -18,12 +16,7 @@ pub(crate) fn line_comment(text: &[u8], from: Place) -> Ran
 {
     let mut at = from;
     loop {
-        // any byte below 0x80 but a newline and a carriage return
-        let set = AsciiSet {
-            low: 0xFFFF_FFFF_FFFF_DBFF,
-            high: 0xFFFF_FFFF_FFFF_FFFF,
-        };
-        let here = chars::run_end(text, at, set);
+        let here = chars::plain_end(text, at, 10, 10, 13);
         match chars::folded_at(text, here) {
             Read::End => {
                 return Ran::To(here);
@@ -80,19 +73,12 @@ fn block_turn(block: Block, c: u32) -> Block
     }
 }
 
-// Past the bytes that a block comment passes over when no pair can begin: any below 0x80 but `/`, `*` and a carriage return.
+// Past plain text in which no pair can begin.
 fn passed(text: &[u8], at: Place, block: Block) -> Place
     ensures { λ r. ⌜ r ≡ passedBy block (now (text .entry)) at ⌝ }
 {
     match block {
-        Block::Other(_) => chars::run_end(
-            text,
-            at,
-            AsciiSet {
-                low: 0xFFFF_7BFF_FFFF_DFFF,
-                high: 0xFFFF_FFFF_FFFF_FFFF,
-            },
-        ),
+        Block::Other(_) => chars::plain_end(text, at, 47, 42, 13),
         Block::Slash(_) => at,
         Block::Star(_) => at,
         Block::Closed => at,

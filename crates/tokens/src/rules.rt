@@ -8,6 +8,7 @@ use crate::Token;
 use crate::comments::block_comment;
 use crate::comments::line_comment;
 use crate::runs::run_from;
+use crate::runs::run_on;
 use crate::words::keyword;
 use answers::Place;
 use answers::Refusal;
@@ -113,7 +114,7 @@ fn percent_rule(text: &[u8], offset: u32, next: Place) -> Lexed
             Class::Inside => {
                 as_token(
                     Token::ExplicitId,
-                    run_from(text, offset, behind, Run::Keylike),
+                    run_on(text, offset, behind, Run::Keylike),
                 )
             }
             Class::Outside => Lexed::As(Token::ExplicitId, next),

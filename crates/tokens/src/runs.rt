@@ -69,10 +69,10 @@ fn set_of(run: Run) -> AsciiSet
 }
 
 // Where a run from a place on ends: at the end, at a character outside its class, or in a refusal.
-pub(crate) fn run_from(text: &[u8], offset: u32, from: Place, run: Run) -> Ran
+pub(crate) fn run_on(text: &[u8], offset: u32, from: Place, run: Run) -> Ran
     ensures { λ r. ⌜ r ≡ Comments.run (classOf run) offset (foldedFrom (now (text .entry)) from) ⌝ }
 {
-    let mut at = chars::run_end(text, from, set_of(run));
+    let mut at = from;
     loop {
         match chars::folded_at(text, at) {
             Read::End => {
@@ -94,4 +94,15 @@ pub(crate) fn run_from(text: &[u8], offset: u32, from: Place, run: Run) -> Ran
             },
         }
     }
+}
+
+// The same for a run that is likely to have only bytes of its set: a byte that reads as itself and is not of the set is outside the class.
+pub(crate) fn run_from(text: &[u8], offset: u32, from: Place, run: Run) -> Ran
+    ensures { λ r. ⌜ r ≡ Comments.run (classOf run) offset (foldedFrom (now (text .entry)) from) ⌝ }
+{
+    let at = chars::run_end(text, from, set_of(run));
+    if chars::single_at(text, at) {
+        return Ran::To(at);
+    }
+    run_on(text, offset, at, run)
 }

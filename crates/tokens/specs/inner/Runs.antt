@@ -5,7 +5,7 @@ use Rattle.answers.specs.declared.Place.{Place}
 use Rattle.answers.specs.Caps.{cap}
 use Rattle.chars.specs.declared.AsciiSet.{AsciiSet}
 use Rattle.chars.specs.declared.Class.{Class}
-use Rattle.chars.specs.inner.Runs.{runEnd}
+use Rattle.chars.specs.inner.Plain.{plainEnd}
 use Rattle.chars.specs.Classes.{keylikeContinue}
 use Rattle.tokens.specs.declared.Run.{Run}
 use Rattle.tokens.specs.declared.Block.{Block}
@@ -23,17 +23,9 @@ setOf Run.Blanks = record { low = 0x0000_0001_0000_0600; high = 0 }
 setOf Run.Digits = record { low = 0x03FF_0000_0000_0000; high = 0 }
 setOf Run.Keylike = record { low = 0x03FF_2000_0000_0000; high = 0x07FF_FFFE_87FF_FFFE }
 
--- Any byte below 0x80 but a newline and a carriage return.
-abbrev pub lineSet : AsciiSet
-lineSet = record { low = 0xFFFF_FFFF_FFFF_DBFF; high = 0xFFFF_FFFF_FFFF_FFFF }
-
--- Any byte below 0x80 but `/`, `*` and a carriage return.
-abbrev pub blockSet : AsciiSet
-blockSet = record { low = 0xFFFF_7BFF_FFFF_DFFF; high = 0xFFFF_FFFF_FFFF_FFFF }
-
--- Where a block comment is looked at next: past plain bytes, unless half a pair may stand before the place.
+-- Where a block comment is looked at next: past plain text without `/` and `*`, unless half a pair may stand before the place.
 unfoldable pub passedBy : Block → List ℕ → Place → Place
-passedBy (Block.Other depth) s p = runEnd s blockSet p
+passedBy (Block.Other depth) s p = plainEnd s 47 42 13 p
 passedBy (Block.Slash depth) s p = p
 passedBy (Block.Star depth) s p = p
 passedBy Block.Closed s p = p

@@ -1,3 +1,6 @@
+use Prim.Native.Nat.{_-_, _%_}
+use mathlib.Core.Path.{_≡_}
+use native.Mathlib.Omega.{arith}
 use borrow.Author.Tests.{lt-ltb, le-ltb}
 use Rattle.chars.specs.inner.Runs.{inSet}
 use borrow.Author.Needs.{needs}
@@ -19,7 +22,9 @@ shr-result-2 c = search needs
 
 returns-2 : tie.Need-returns-2
 unfolding inSet
-returns-2 c = rw (le-ltb _ _ (c .before .before .if1 .left), lt-ltb _ _ (c .before .if2 .taken))
+returns-2 c =
+    let e : c .before .before .before .args .b % 64 ≡ c .before .before .before .args .b - 64 = omega arith in
+    rw (le-ltb _ _ (c .before .before .if1 .left), lt-ltb _ _ (c .before .if2 .taken), e)
 
 returns-3 : tie.Need-returns-3
 unfolding inSet

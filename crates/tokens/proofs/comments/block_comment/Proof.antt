@@ -21,7 +21,7 @@ Inv-loop text start at₀ block₀ at block = (blockComment start (Block.Other 1
 abbrev μ-loop : tie.MeasureT-loop
 μ-loop text start at₀ block₀ at block = length text - at .0
 
--- the comment as it is seen behind the plain bytes
+-- the comment as it is seen behind plain text
 behind : (c : tie.After-passed Inv-loop μ-loop) → blockComment (c .before .before .before .args .start) (Block.Other 1) (foldedFrom (c .before .before .before .args .text .now) (c .before .before .before .args .from)) ≡ blockComment (c .before .before .before .args .start) (c .before .loop .block) (foldedFrom (c .before .before .before .args .text .now) (c .passed .result))
 behind c = c .before .loop .inv .0 ∙ block-passes _ _ _ _ ∙ rw (c .passed .ensures)
 

@@ -6,9 +6,8 @@ use Rattle.answers.specs.declared.Place.{Place}
 use Rattle.chars.specs.declared.Read.the-variants.{Char}
 use Rattle.chars.specs.View.{foldedAt, foldedFrom}
 use Rattle.chars.proofs.ViewLaws.{folded-onward}
-use Rattle.chars.proofs.RunLaws.{run-beyond}
+use Rattle.chars.proofs.PlainLaws.{plain-beyond}
 use Rattle.tokens.specs.Comments.{lineComment}
-use Rattle.tokens.specs.inner.Runs.{lineSet}
 use Rattle.tokens.proofs.CommentLaws.{line-end, line-ill, line-newline, line-other, line-passes}
 use borrow.Author.Needs.{needs}
 use Rattle.tokens.proofs.comments.line_comment.Statement.{statement}
@@ -20,19 +19,19 @@ Inv-loop text at₀ at = lineComment (foldedFrom text at₀) ≡ lineComment (fo
 abbrev μ-loop : tie.MeasureT-loop
 μ-loop text at₀ at = length text - at .0
 
--- the comment as it is seen behind the plain bytes
-passed : (c : tie.After-run-end Inv-loop μ-loop) → lineComment (foldedFrom (c .before .before .before .args .text .now) (c .before .before .before .args .from)) ≡ lineComment (foldedFrom (c .before .before .before .args .text .now) (c .run-end .result))
-passed c = c .before .loop .inv ∙ line-passes _ _ ∙ rw (c .run-end .ensures)
+-- the comment as it is seen behind plain text
+passed : (c : tie.After-plain-end Inv-loop μ-loop) → lineComment (foldedFrom (c .before .before .before .args .text .now) (c .before .before .before .args .from)) ≡ lineComment (foldedFrom (c .before .before .before .args .text .now) (c .plain-end .result))
+passed c = c .before .loop .inv ∙ line-passes _ _ ∙ rw (c .plain-end .ensures)
 
 -- a character stands there
-stands : (c : tie.After-c Inv-loop μ-loop) → foldedAt (c .before .before .before .before .before .before .args .text .now) (c .before .before .before .run-end .result) ≡ Char (c .c .given .0 .0) (c .c .given .0 .1 .0)
+stands : (c : tie.After-c Inv-loop μ-loop) → foldedAt (c .before .before .before .before .before .before .args .text .now) (c .before .before .before .plain-end .result) ≡ Char (c .c .given .0 .0) (c .c .given .0 .1 .0)
 stands c = sym (c .before .before .folded-at .ensures) ∙ c .c .given .1
 
 loop-holds : tie.Need-loop-holds Inv-loop μ-loop
 loop-holds c = refl
 
-run-end-requires : tie.Need-run-end-requires Inv-loop μ-loop
-run-end-requires c κs = search needs
+plain-end-requires : tie.Need-plain-end-requires Inv-loop μ-loop
+plain-end-requires c κs = search needs
 
 folded-at-requires : tie.Need-folded-at-requires Inv-loop μ-loop
 folded-at-requires c κs = search needs
@@ -56,7 +55,7 @@ returns-3 : tie.Need-returns-3 Inv-loop μ-loop
 returns-3 c = sym (passed (c .before .before .before .before .before) ∙ line-newline _ _ _ _ (stands (c .before .before)) (c .if1 .taken))
 
 loop-less : tie.Need-loop-less Inv-loop μ-loop
-loop-less c = omega (arith, folded-onward _ _ _ _ (stands (c .before .before)), run-beyond (c .before .before .before .before .before .before .before .before .args .text .now) lineSet (c .before .before .before .before .before .before .loop .at), ap (λ (p : Place). p .0) (c .before .before .before .before .before .run-end .ensures))
+loop-less c = omega (arith, folded-onward _ _ _ _ (stands (c .before .before)), plain-beyond (c .before .before .before .before .before .before .before .before .args .text .now) 10 10 13 (c .before .before .before .before .before .before .loop .at), ap (λ (p : Place). p .0) (c .before .before .before .before .before .plain-end .ensures))
 
 loop-again : tie.Need-loop-again Inv-loop μ-loop
 loop-again c = passed (c .before .before .before .before .before) ∙ line-other _ _ _ _ (stands (c .before .before)) (c .if1 .left)
@@ -68,7 +67,7 @@ line-comment-spec =
     Inv-loop
     μ-loop
     loop-holds
-    run-end-requires
+    plain-end-requires
     folded-at-requires
     enum-told
     returns

@@ -6,8 +6,8 @@ use Rattle.tokens.proofs.comments.passed.Tie as tie
 enum-told : tie.Need-enum-told
 enum-told c = search needs
 
-run-end-requires : tie.Need-run-end-requires
-run-end-requires c κs = search needs
+plain-end-requires : tie.Need-plain-end-requires
+plain-end-requires c κs = search needs
 
 enum-told-2 : tie.Need-enum-told-2
 enum-told-2 c = search needs
@@ -20,7 +20,7 @@ enum-told-4 c = search needs
 
 returns : tie.Need-returns
 unfolding passedBy
-returns c = rw (c .before .enum-told .given .1) (c .run-end .ensures)
+returns c = rw (c .before .enum-told .given .1) (c .plain-end .ensures)
 
 returns-2 : tie.Need-returns-2
 unfolding passedBy
@@ -39,7 +39,7 @@ passed-spec =
     tie.close
     (tie.spec
     enum-told
-    run-end-requires
+    plain-end-requires
     enum-told-2
     enum-told-3
     enum-told-4

@@ -24,8 +24,8 @@ is-keylike-start-requires c κs = search needs
 enum-told-2 : tie.Need-enum-told-2
 enum-told-2 c = search needs
 
-run-from-requires : tie.Need-run-from-requires
-run-from-requires c κs = search needs
+run-on-requires : tie.Need-run-on-requires
+run-on-requires c κs = search needs
 
 as-token-requires : tie.Need-as-token-requires
 as-token-requires c κs = search needs
@@ -49,7 +49,7 @@ returns-2 c = rw (folded-ill _ _ _ (sym (c .before .before .before .folded-at .e
 
 returns-3 : tie.Need-returns-3
 unfolding percentRule classedBy classOf
-returns-3 c = rw (folded-char _ _ _ _ (sym (c .before .before .before .before .before .before .before .before .folded-at .ensures) ∙ c .before .before .before .before .before .before .c .given .1), ← c .before .before .before .before .is-keylike-start .ensures, c .before .before .enum-told2 .given .1, ← c .before .run-from .ensures) (c .as-token .ensures)
+returns-3 c = rw (folded-char _ _ _ _ (sym (c .before .before .before .before .before .before .before .before .folded-at .ensures) ∙ c .before .before .before .before .before .before .c .given .1), ← c .before .before .before .before .is-keylike-start .ensures, c .before .before .enum-told2 .given .1, ← c .before .run-on .ensures) (c .as-token .ensures)
 
 returns-4 : tie.Need-returns-4
 unfolding percentRule classedBy
@@ -69,7 +69,7 @@ percent-rule-spec =
     enum-known-c
     is-keylike-start-requires
     enum-told-2
-    run-from-requires
+    run-on-requires
     as-token-requires
     enum-told-3
     enum-told-4

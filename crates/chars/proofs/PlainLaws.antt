@@ -1,0 +1,99 @@
+-- Plain text is as many characters, of one byte each; and so is a place where a byte reads as itself.
+use Prim.Native.Nat.{ℕ, _+_, _-_, _≤_, _<_, min}
+use mathlib.Core.Path.{_≡_, refl}
+use mathlib.Core.Bool.{Bool, true, false, not, _&&_, _||_}
+use mathlib.Core.List.{List, []}
+use mathlib.Core.Logic.{⊎-elim}
+use native.Mathlib.Omega.{arith}
+use lib.Dec.{leb, ltb, eqb}
+use lib.ListN.{length, getD}
+use borrow.Author.Tests.{ltb-true, leb-false, eqb-true, eqb-false, not-true, not-false}
+use Rattle.terms.specs.Terms.{if_then_else_, within, first}
+use Rattle.terms.proofs.TestLaws.{and-both, or-either, or-neither, clash, within-true}
+use Rattle.terms.proofs.FirstLaws.{first-le, first-from}
+use Rattle.answers.specs.declared.Place.{Place}
+use Rattle.answers.specs.Places.{place}
+use Rattle.answers.specs.Caps.{cap}
+use Rattle.chars.specs.Utf8.{byteAt, onBy, charAt}
+use Rattle.chars.specs.View.{foldedAt}
+use Rattle.chars.specs.inner.Plain.{isPlain, halts, haltsAt, plainEnd, singleAt}
+use Rattle.chars.specs.declared.Read.the-variants.{Char}
+use Rattle.chars.proofs.Utf8Laws.{ascii-at}
+use Rattle.chars.proofs.ViewLaws.{folded-ascii-at}
+use Rattle.chars.proofs.SeekLaws.{seek-steps}
+
+-- a plain byte is below 0x80
+plain-low : (b : ℕ) → isPlain b ≡ true → b < 0x80
+unfolding isPlain
+plain-low b h =
+    ⊎-elim (λ w. let z = within-true 0x20 0x7E b w in omega arith)
+    (λ w. ⊎-elim (λ e. let z = eqb-true b 9 e in omega arith)
+    (λ u. ⊎-elim (λ e. let z = eqb-true b 10 e in omega arith) (λ e. let z = eqb-true b 13 e in omega arith) (or-either (eqb b 10) (eqb b 13) u))
+    (or-either (eqb b 9) (eqb b 10 || eqb b 13) w))
+    (or-either (within 0x20 0x7E b) (eqb b 9 || (eqb b 10 || eqb b 13)) h)
+
+-- a byte at which plain text less x, y and z goes on
+pub record Passes (x y z b : ℕ) : Type 0 where
+  pub not-x : eqb b x ≡ false
+  pub not-y : eqb b y ≡ false
+  pub not-z : eqb b z ≡ false
+  pub plain : isPlain b ≡ true
+
+passes : (x y z b : ℕ) → halts x y z b ≡ false → Passes x y z b
+unfolding halts
+passes x y z b h =
+    let i = or-neither (eqb b x) (eqb b y || (eqb b z || not (isPlain b))) h in
+    let j = or-neither (eqb b y) (eqb b z || not (isPlain b)) (i .1) in
+    let k = or-neither (eqb b z) (not (isPlain b)) (j .1) in
+    record { not-x = i .0; not-y = j .0; not-z = k .0; plain = not-false _ (k .1) }
+
+module _ (s : List ℕ) (x y z : ℕ) (p : Place) where
+  pub plain-beyond : p .0 ≤ plainEnd s x y z p .0
+  unfolding plainEnd
+  plain-beyond = first-from (haltsAt s x y z) (min (length s) cap - p .0) (p .0)
+
+  pub plain-inside : plainEnd s x y z p .0 ≤ p .0 + (min (length s) cap - p .0)
+  unfolding plainEnd
+  plain-inside = first-le (haltsAt s x y z) (min (length s) cap - p .0) (p .0)
+
+  -- THE LAW: what no such byte changes, the whole stretch does not change
+  plain-steps : {A : Type 0} (F : Place → A)
+      → ((q : Place) → Passes x y z (byteAt s q) → q .0 < length s → q .0 < cap → F q ≡ F (onBy 1 q)) → F p ≡ F (plainEnd s x y z p)
+  unfolding plainEnd byteAt
+  plain-steps F one =
+      seek-steps (haltsAt s x y z) F p (min (length s) cap - p .0) (λ i l e. one (onBy i p) (passes x y z _ e) (omega arith) (omega arith))
+
+  -- with each byte as the character that it is, as the text stands
+  pub plain-strides : {A : Type 0} (F : Place → A)
+      → ((q : Place) → isPlain (byteAt s q) ≡ true → charAt s q ≡ Char (byteAt s q) (onBy 1 q) → F q ≡ F (onBy 1 q))
+      → F p ≡ F (plainEnd s x y z p)
+  plain-strides F one = plain-steps F (λ q m h k. one q (m .plain) (ascii-at s q h k (plain-low _ (m .plain))))
+
+  -- and folded, where it ends at a carriage return
+  pub plain-folded : {A : Type 0} (F : Place → A) → z ≡ 13
+      → ((q : Place) → Passes x y z (byteAt s q) → foldedAt s q ≡ Char (byteAt s q) (onBy 1 q) → F q ≡ F (onBy 1 q))
+      → F p ≡ F (plainEnd s x y z p)
+  plain-folded F cr one =
+      plain-steps F (λ q m h k. one q m (folded-ascii-at s q h k (plain-low _ (m .plain)) (λ e. eqb-false _ z (m .not-z) (rw cr e))))
+
+-- a byte that reads as itself
+pub record Single (s : List ℕ) (p : Place) : Type 0 where
+  pub inside : p .0 < length s
+  pub capped : p .0 < cap
+  pub low : byteAt s p < 0x80
+  pub no-cr : byteAt s p ≡ 13 → ⊥
+
+pub single-is : (s : List ℕ) (p : Place) → singleAt s p ≡ true → Single s p
+unfolding singleAt
+single-is s p e = go (leb (length s) (p .0)) refl (leb cap (p .0)) refl e
+  where
+    go : (t : Bool) → leb (length s) (p .0) ≡ t → (u : Bool) → leb cap (p .0) ≡ u
+        → (if t || u then false else not (eqb (byteAt s p) 13) && ltb (byteAt s p) 0x80) ≡ true → Single s p
+    go true h u g e = absurd (clash false e refl)
+    go false h true g e = absurd (clash false e refl)
+    go false h false g e =
+        let b = and-both (not (eqb (byteAt s p) 13)) (ltb (byteAt s p) 0x80) e in
+        record { inside = leb-false _ _ h; capped = leb-false _ _ g; low = ltb-true _ _ (b .1); no-cr = eqb-false _ _ (not-true _ (b .0)) }
+
+pub single-stands : (s : List ℕ) (p : Place) → singleAt s p ≡ true → foldedAt s p ≡ Char (byteAt s p) (onBy 1 p)
+single-stands s p e = let i = single-is s p e in folded-ascii-at s p (i .inside) (i .capped) (i .low) (i .no-cr)
