@@ -19,18 +19,14 @@ fn library(here: &std::path::Path) {
     let named = env::var("WITBOX_LIBRARY").unwrap_or("target/staticlib".into());
     let folder = here.join("../..").join(&named);
     let archive = folder.join("libwitbox.a");
-    let shared = folder.join("libwitbox.so");
     println!("cargo::rerun-if-changed={}", archive.display());
     println!("cargo::rustc-env=WITBOX_LIBRARY={named}/libwitbox.a");
-    let kind = match (archive.is_file(), shared.is_file()) {
-        (true, _) => "static",
-        // a wrong one, made to try the tool
-        (_, true) => "dylib",
-        _ => return,
-    };
+    if !archive.is_file() {
+        return;
+    }
     println!("cargo::rustc-cfg=have_library");
     println!("cargo::rustc-link-search=native={}", folder.display());
-    println!("cargo::rustc-link-lib={kind}=witbox");
+    println!("cargo::rustc-link-lib=static=witbox");
 }
 
 /// The stand-in is built from `src/model`, or from the folder that `COMPARE_STAND_IN` names: a copy with a rule broken.

@@ -3,109 +3,17 @@
 //! A slice goes over as its pointer and its count. The pointer of an empty slice is not null in Rust, as the header asks. Each
 //! function reads and writes inside the slices that it is lent and keeps no pointer; `&mut` sees to it that nothing lent overlaps.
 
+mod declared;
+
 use crate::error::{Error, END};
 use crate::{Span, Token};
-
-/// `struct witbox_cursor`
-#[repr(C)]
-#[derive(Clone, Copy)]
-pub struct Cursor {
-    pub at: u32,
-}
-
-/// `struct witbox_step`
-#[repr(C)]
-struct Step {
-    number: u32,
-    position: u32,
-    detail: u32,
-    kind: u32,
-    start: u32,
-    end: u32,
-}
-
-/// `struct witbox_opened`, `witbox_listed`, `witbox_decoded` and `witbox_sorted`: the three numbers and one more.
-#[repr(C)]
-struct Counted {
-    number: u32,
-    position: u32,
-    detail: u32,
-    count: u32,
-}
-
-/// `struct witbox_named`
-#[repr(C)]
-struct Named {
-    number: u32,
-    position: u32,
-    detail: u32,
-    place: u32,
-    length: u32,
-}
+pub use declared::Cursor;
+use declared::*;
 
 type StepCall = unsafe extern "C" fn(*const u8, usize, u32, *mut Cursor) -> Step;
 type WantedCall = unsafe extern "C" fn(*const u8, usize, u32, u32, *mut Cursor) -> Step;
 type ListCall = unsafe extern "C" fn(*const u8, usize, u32, *mut u32, usize) -> Counted;
 type NameCall = unsafe extern "C" fn(*const u8, usize, u32, u32, u32) -> Named;
-
-extern "C" {
-    fn witbox_open(text: *const u8, length: usize, offset: u32) -> Counted;
-    fn witbox_next_raw(text: *const u8, length: usize, offset: u32, cursor: *mut Cursor) -> Step;
-    fn witbox_next(text: *const u8, length: usize, offset: u32, cursor: *mut Cursor) -> Step;
-    fn witbox_eat(
-        text: *const u8,
-        length: usize,
-        offset: u32,
-        wanted: u32,
-        cursor: *mut Cursor,
-    ) -> Step;
-    fn witbox_expect(
-        text: *const u8,
-        length: usize,
-        offset: u32,
-        wanted: u32,
-        cursor: *mut Cursor,
-    ) -> Step;
-    fn witbox_list_raw(
-        text: *const u8,
-        length: usize,
-        offset: u32,
-        table: *mut u32,
-        words: usize,
-    ) -> Counted;
-    fn witbox_list(
-        text: *const u8,
-        length: usize,
-        offset: u32,
-        table: *mut u32,
-        words: usize,
-    ) -> Counted;
-    fn witbox_string_literal(
-        text: *const u8,
-        length: usize,
-        offset: u32,
-        start: u32,
-        end: u32,
-        buffer: *mut u8,
-        room: usize,
-    ) -> Counted;
-    fn witbox_parse_id(text: *const u8, length: usize, offset: u32, start: u32, end: u32) -> Named;
-    fn witbox_parse_explicit_id(
-        text: *const u8,
-        length: usize,
-        offset: u32,
-        start: u32,
-        end: u32,
-    ) -> Named;
-    fn witbox_toposort(
-        sheet: *const u32,
-        words: usize,
-        names: *const u8,
-        names_length: usize,
-        order: *mut u32,
-        room: usize,
-    ) -> Counted;
-}
 
 impl Counted {
     fn answer(self) -> Result<u32, Error> {

@@ -136,6 +136,7 @@ impl Checker {
         met.times += 1;
         if FIRST.load(Ordering::Relaxed) {
             let _one_prints = PRINTING.lock();
+            println!("the first difference, at call {}", self.counts.calls);
             self.report();
             exit(1);
         }

@@ -1,107 +1,11 @@
 //! The new side: the static library through its C header.
 
+#[path = "../../../bindings/rust/src/ffi/declared.rs"]
+mod declared;
+
 use crate::call::{Ask, Call, Numbers};
 use crate::lent::Lent;
-
-#[repr(C)]
-struct Cursor {
-    at: u32,
-}
-
-#[repr(C)]
-struct Opened {
-    number: u32,
-    position: u32,
-    detail: u32,
-    cursor: u32,
-}
-
-#[repr(C)]
-struct Step {
-    number: u32,
-    position: u32,
-    detail: u32,
-    kind: u32,
-    start: u32,
-    end: u32,
-}
-
-/// `witbox_listed`, `witbox_decoded` and `witbox_sorted`: three numbers and one more.
-#[repr(C)]
-struct Counted {
-    number: u32,
-    position: u32,
-    detail: u32,
-    count: u32,
-}
-
-#[repr(C)]
-struct Named {
-    number: u32,
-    position: u32,
-    detail: u32,
-    place: u32,
-    length: u32,
-}
-
-extern "C" {
-    fn witbox_open(text: *const u8, length: usize, offset: u32) -> Opened;
-    fn witbox_next_raw(text: *const u8, length: usize, offset: u32, cursor: *mut Cursor) -> Step;
-    fn witbox_next(text: *const u8, length: usize, offset: u32, cursor: *mut Cursor) -> Step;
-    fn witbox_eat(
-        text: *const u8,
-        length: usize,
-        offset: u32,
-        wanted: u32,
-        cursor: *mut Cursor,
-    ) -> Step;
-    fn witbox_expect(
-        text: *const u8,
-        length: usize,
-        offset: u32,
-        wanted: u32,
-        cursor: *mut Cursor,
-    ) -> Step;
-    fn witbox_list_raw(
-        text: *const u8,
-        length: usize,
-        offset: u32,
-        table: *mut u32,
-        words: usize,
-    ) -> Counted;
-    fn witbox_list(
-        text: *const u8,
-        length: usize,
-        offset: u32,
-        table: *mut u32,
-        words: usize,
-    ) -> Counted;
-    fn witbox_string_literal(
-        text: *const u8,
-        length: usize,
-        offset: u32,
-        start: u32,
-        end: u32,
-        buffer: *mut u8,
-        room: usize,
-    ) -> Counted;
-    fn witbox_parse_id(text: *const u8, length: usize, offset: u32, start: u32, end: u32) -> Named;
-    fn witbox_parse_explicit_id(
-        text: *const u8,
-        length: usize,
-        offset: u32,
-        start: u32,
-        end: u32,
-    ) -> Named;
-    fn witbox_toposort(
-        sheet: *const u32,
-        words: usize,
-        names: *const u8,
-        names_length: usize,
-        order: *mut u32,
-        room: usize,
-    ) -> Counted;
-}
+use declared::*;
 
 /// Makes a call of the library over lent memory.
 pub fn run(call: &Call, lent: &mut Lent) -> Numbers {
@@ -126,7 +30,7 @@ pub fn run_on(call: &Call, words: &mut [u32], bytes: &mut [u8]) -> Numbers {
                     number: r.number,
                     position: r.position,
                     detail: r.detail,
-                    cursor: r.cursor,
+                    cursor: r.count,
                     ..Numbers::default()
                 }
             }

@@ -34,6 +34,7 @@ const USAGE: &str = "usage: compare [--model] [--first] [--jobs N] COMMAND
   record [FILE]         the list that 'cases' replays (crates/cases/data/answers.txt)
   bench                 times of both sides, to docs/BENCH.md and docs/bench.svg
   mutants [WORD]        the tool tried on wrong libraries: the second reading with a rule broken
+  wrong [NAME...]       the same with the library, proved against a definition with a rule broken
 --model puts a second reading of the paper in the library's place; --first ends at the first difference";
 
 /// What was asked for, besides the command's own words.
@@ -67,7 +68,7 @@ fn main() {
         usage();
     }
     // what needs no library
-    let alone = words[0] == "record" || words[0] == "mutants";
+    let alone = matches!(words[0].as_str(), "record" | "mutants" | "wrong");
     if options.side == Side::Library && !side::LIBRARY && !alone {
         eprintln!("compare: {} is not here: build it with 'rt staticlib witbox', then build this again. Nothing is compared.", side::ARCHIVE);
         eprintln!("compare: --model puts a second reading of the paper in its place.");
@@ -102,17 +103,18 @@ fn run(options: &Options, words: &[String]) -> bool {
             commands::bench::once(options.side, number(pair), which);
             true
         }
-        ["mutants"] => tried(""),
-        ["mutants", word] => tried(word),
+        ["mutants"] => tried(commands::mutants::of_model("")),
+        ["mutants", word] => tried(commands::mutants::of_model(word)),
+        ["wrong", ref names @ ..] => tried(commands::mutants::of_library(names)),
         ["record"] => written(&root().join(commands::record::PLACE)),
         ["record", file] => written(Path::new(file)),
         _ => usage(),
     }
 }
 
-/// Tries the tool on wrong libraries.
-fn tried(word: &str) -> bool {
-    commands::mutants::of_model(word).unwrap_or_else(|why| fail(&why))
+/// Whether the tool noticed every wrong library that it was tried on.
+fn tried(all: Result<bool, String>) -> bool {
+    all.unwrap_or_else(|why| fail(&why))
 }
 
 /// Records the list.

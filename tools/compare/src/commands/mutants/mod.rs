@@ -1,5 +1,6 @@
-//! `mutants`: the tool tried on wrong libraries. `exhaust 3` or 60 seconds of `fuzz` must notice each.
+//! `mutants` and `wrong`: the tool tried on wrong libraries. `exhaust 3` or 60 seconds of `fuzz` must notice each.
 
+mod library;
 mod model;
 mod rules;
 
@@ -8,6 +9,7 @@ use std::path::{Path, PathBuf};
 use std::process::{Child, Command, Stdio};
 use std::time::{Duration, Instant};
 
+pub use library::of_library;
 pub use model::of_model;
 
 /// The trials that a wrong library has to be noticed by one of.
@@ -56,11 +58,12 @@ fn noticed(command: impl Fn() -> Command) -> Result<Option<String>, String> {
     for trial in TRIALS {
         let start = Instant::now();
         let mut command = command();
-        command.arg("--first").args(trial);
+        // one thread, so that the calls up to the first difference are the same each time
+        command.args(["--first", "--jobs", "1"]).args(trial);
         let child = command.stdout(Stdio::piped()).stderr(Stdio::null()).spawn();
         let ended = wait(child.map_err(|e| format!("the tool: {e}"))?)?;
         let took = format!(
-            "{} in {:.1} s",
+            "{} after {:.1} s",
             trial.join(" "),
             start.elapsed().as_secs_f64()
         );
@@ -90,7 +93,7 @@ fn wait(mut child: Child) -> Result<Option<(Option<i32>, String)>, String> {
     Ok(Some((output.status.code(), said)))
 }
 
-/// The call and the input that a printed difference shows.
+/// Which call showed a printed difference, and its reduced input.
 fn shown(said: &str) -> String {
     let field = |name: &str| {
         let line = said.lines().find(|l| l.trim_start().starts_with(name));
@@ -101,7 +104,8 @@ fn shown(said: &str) -> String {
         text => text,
     };
     let input: String = input.chars().take(60).collect();
-    format!("{} of {input}", field("call"))
+    let at = field("the first difference, at");
+    format!("{at}: {} of {input}", field("call"))
 }
 
 /// Prints what became of a wrong library. Answers whether it was noticed.
