@@ -274,3 +274,13 @@ follow-on s low from at n end e f g k a h = go (ltb (k + 1) (at + 1)) refl
     go : (t : Bool) → ltb (k + 1) (at + 1) ≡ t → follows low (getD s k 0) (getD s (k + 1) 0) ≡ true
     go true t = f k a (ltb-true (k + 1) (at + 1) t)
     go false t = let z : at + 1 ≤ k + 1 = ltb-false (k + 1) (at + 1) t in g k (omega arith) (omega arith)
+
+pub follow-two : (s : List ℕ) (low k : ℕ) → bit (not (follows low (getD s k 0) (getD s (k + 1) 0))) ≡ 0 → Follow s low k (k + 2)
+follow-two s low k z j a h = rw j-is (go (follows low (getD s k 0) (getD s (k + 1) 0)) z)
+  where
+    j-is : j ≡ k
+    j-is = omega arith
+
+    go : (t : Bool) → bit (not t) ≡ 0 → t ≡ true
+    go true e = refl
+    go false e = absurd (omega arith)

@@ -1,9 +1,8 @@
 //! Identifiers whose letters are all of one case, as most are: sixteen bytes at a time, with no branch on any of them.
 use answers::Place;
-use answers::Position;
 ghost use mathlib.Core.Path.{_≡_};
 ghost use mathlib.Core.Bool.{true, not, _&&_};
-ghost use Prim.Native.Nat.{ℕ, _+_, _-_, _<_, _≤_, min};
+ghost use Prim.Native.Nat.{_+_, _-_, _<_, _≤_, min};
 ghost use lib.ListN.{length};
 ghost use lib.Dec.{ltb};
 ghost use Rattle.terms.specs.Terms.{if_then_else_, bit, within};
@@ -97,7 +96,22 @@ fn size_up_to(at: usize, end: usize) -> u8
     std::num::wrapping_sub_u8((end % 256) as u8, (at % 256) as u8)
 }
 
-// Each byte behind the first may stand behind the one before it. No where the text has too few bytes behind them to tell.
+// Each byte behind the first may stand behind the one before it: one by one, where the text has too few bytes to read more.
+fn joined_singly(text: &[u8], from: usize, end: usize, low: u8) -> bool
+    requires { ⌜ (from < end) × (end ≤ length (now text)) × (low ≤ 0x61) ⌝ }
+    ensures { λ r. ⌜ (r ≡ true → Follow (now (text .entry)) low from end) ⌝ }
+{
+    let mut k = from;
+    while k + 1 < end {
+        if odd(low, text[k], text[k + 1]) != 0 {
+            return false;
+        }
+        k += 1;
+    }
+    true
+}
+
+// The same, sixteen at a time.
 fn joined(text: &[u8], from: usize, end: usize, low: u8) -> bool
     requires { ⌜ (from < end) × (end ≤ length (now text)) × (low ≤ 0x61) ⌝ }
     ensures { λ r. ⌜ (r ≡ true → Follow (now (text .entry)) low from end) ⌝ }
@@ -105,7 +119,7 @@ fn joined(text: &[u8], from: usize, end: usize, low: u8) -> bool
     let mut at = from;
     loop {
         if text.len() - at < 17 {
-            return false;
+            return joined_singly(text, at, end, low);
         }
         if any_odd(text, at, size_up_to(at, end), low) != 0 {
             return false;

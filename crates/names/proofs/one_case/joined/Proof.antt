@@ -20,8 +20,11 @@ loop-holds c = (omega arith, (omega arith, follow-one (c .before .args .text .no
 sub-if1 : tie.Need-sub-if1 Inv-loop μ-loop
 sub-if1 c = search needs
 
+joined-singly-requires : tie.Need-joined-singly-requires Inv-loop μ-loop
+joined-singly-requires c κs = search needs
+
 returns : tie.Need-returns Inv-loop μ-loop
-returns c z = absurd (false≢true z)
+returns c z = follow-on (c .before .before .before .before .args .text .now) (c .before .before .before .before .args .low) (c .before .before .before .before .args .from) (c .before .before .loop .at) (c .before .before .before .before .args .end - c .before .before .loop .at) _ (omega arith) (c .before .before .loop .inv .1 .1) (λ k a h. c .joined-singly .ensures z k a (omega arith))
 
 size-up-to-requires : tie.Need-size-up-to-requires Inv-loop μ-loop
 size-up-to-requires c κs = search needs
@@ -55,6 +58,7 @@ joined-spec =
     μ-loop
     loop-holds
     sub-if1
+    joined-singly-requires
     returns
     size-up-to-requires
     any-odd-requires
