@@ -25,7 +25,7 @@ fn page(all: &[Measured], stacks: &[(&str, usize)]) -> String {
          Written by `tools/compare/run bench`: both sides over the same inputs in one run, built for release, the median of 101\n\
          samples taken in turn. A ratio above 1 says how many times faster witbox is. Texts with more than 4,096 rows are cut to that\n\
          many for the listings, and whole for the steps. The Rust's rows go to a vector with room for them; its sort builds its map\n\
-         from the sheet first.\n\n",
+         from the sheet first. What was tried, and what limits it: [SPEED.md](SPEED.md).\n\n",
     );
     for (what, value) in machine() {
         writeln!(out, "- {what}: {value}").unwrap();
