@@ -4,18 +4,24 @@ use answers::Place;
 ghost use mathlib.Core.Path.{_≡_};
 ghost use Prim.Native.Nat.{min};
 ghost use lib.ListN.{length};
+ghost use lib.Dec.{ltb};
+ghost use Rattle.terms.specs.Terms.{if_then_else_};
 ghost use Rattle.answers.specs.Caps.{cap};
 ghost use Rattle.chars.specs.inner.Runs.{inSet, runEnd};
 
-// The byte is of the set.
+// The bits of the set among which that of a byte below 0x80 is.
+fn half(set: AsciiSet, b: u32) -> u64
+    ensures { λ r. ⌜ r ≡ (if ltb b 64 then set .low else set .high) ⌝ }
+{
+    if b < 64 { set.low } else { set.high }
+}
+
+// The byte is of the set. A choice between two words is no branch, and so is not guessed wrong where letters and digits mix.
 fn has(set: AsciiSet, b: u32) -> bool
     ensures { λ r. ⌜ r ≡ inSet set b ⌝ }
 {
-    if b < 64 {
-        return (set.low >> b) % 2 == 1;
-    }
     if b < 128 {
-        return (set.high >> (b % 64)) % 2 == 1;
+        return (half(set, b) >> (b % 64)) % 2 == 1;
     }
     false
 }

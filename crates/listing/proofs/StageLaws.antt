@@ -26,7 +26,7 @@ use Rattle.listing.specs.declared.Listed.{Listed}
 use Rattle.listing.specs.declared.Listed.the-variants.{Count, Refused}
 use Rattle.listing.specs.Rows.{Row, Rows, rows, refused, rowWords, wordsOf, allWords, keeps, ahead, rowOf, rowsOf}
 use Rattle.listing.specs.Listings.{rowCap, tabled}
-use Rattle.listing.specs.inner.Staging.{put, laid, counted, Staged, Deliverable, delivered}
+use Rattle.listing.specs.inner.Staging.{put, laid, counted, Staged, Deliverable, fits, delivered}
 
 -- the words of rows, counted and joined
 pub length-words : (rs : List Row) → length (allWords rs) ≡ length rs * rowWords
@@ -239,11 +239,16 @@ module _ (n : ℕ) (stage table : List ℕ) where
   unfolding delivered
   delivered-rows h g = rw (le-leb n rowCap h, le-leb (n * rowWords) (length table) g)
 
+-- the rows of an answer that fits are few
+pub fits-few : (answer : Listed) → fits answer ≡ true → (n : ℕ) → answer ≡ Count n → n ≤ 512
+unfolding fits
+fits-few answer f n e = leb-true n 512 (rw e at f)
+
 -- a stage that has room for any count it can be asked for delivers the listing
 module _ (bytes : ℕ) (r : Rows) (answer : Listed) (before after : List ℕ) (g : Staged bytes r answer before after)
-    (room : (n : ℕ) → n ≤ bytes → n ≤ rowCap → n * rowWords ≤ length before) where
+    (room : (n : ℕ) → answer ≡ Count n → n ≤ rowCap → n * rowWords ≤ length before) where
   pub deliverable : Deliverable answer after
-  deliverable = record { held = λ n c h. let k = room n (g .few n c) h in omega (arith, k, g .as-long) }
+  deliverable = record { held = λ n c h. let k = room n c h in omega (arith, k, g .as-long) }
 
   pub staged-tabled : (table : List ℕ) → delivered answer after table ≡ tabled r table
   unfolding delivered tabled counted
@@ -251,7 +256,7 @@ module _ (bytes : ℕ) (r : Rows) (answer : Listed) (before after : List ℕ) (g
     where
       front : (rs : List Row) → r ≡ rows rs → length rs ≤ rowCap → take (length rs * rowWords) after ≡ allWords rs
       front rs e h =
-          let k = room (length rs) (g .few (length rs) (g .counts ∙ ap counted e)) h in
+          let k = room (length rs) (g .counts ∙ ap counted e) h in
           rw (g .holds rs e k) (take-at (allWords rs) (drop (length (allWords rs)) before) (length rs * rowWords) (length-words rs))
 
       -- under the cap the two write the same, and over it neither writes

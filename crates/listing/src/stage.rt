@@ -14,6 +14,7 @@ ghost use Rattle.answers.specs.Caps.{cap};
 ghost use Rattle.steps.specs.Stream.{tokensFrom};
 ghost use Rattle.listing.specs.Rows;
 ghost use Rattle.listing.specs.Rows.{rowWords, wordsOf, rowOf, rowsOf};
+ghost use Rattle.listing.specs.inner.Staging;
 ghost use Rattle.listing.specs.inner.Staging.{put, laid, Staged, Deliverable, delivered};
 
 // The words of a row, and the rows that one listing may have.
@@ -83,6 +84,16 @@ pub(crate) fn rows_from(
                 return Listed::Refused(refusal);
             }
         }
+    }
+}
+
+// A small stage has room for the rows of an answer.
+pub(crate) fn fits(counted: Listed) -> bool
+    ensures { λ r. ⌜ r ≡ Staging.fits counted ⌝ }
+{
+    match counted {
+        Listed::Count(count) => count <= 512,
+        Listed::Refused(_) => true,
     }
 }
 

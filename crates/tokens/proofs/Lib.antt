@@ -4,6 +4,7 @@ pub mod WordLaws
 pub mod RunLaws
 pub mod CommentLaws
 pub mod TokenLaws
+pub mod SettledLaws
 -- The definitions on the cases, and one answer for each contract.
 pub mod Cases
 pub mod OneAnswer

@@ -21,8 +21,11 @@ ghost use Prim.Native.Nat.{_<_, _≤_};
 ghost use lib.ListN.{length};
 ghost use Rattle.chars.specs.View.{foldedFrom};
 ghost use Rattle.tokens.specs.Comments.{run};
-ghost use Rattle.tokens.specs.Tokens.{ruleOf, asToken, slashRule, dashRule, percentRule, asWord, asString, lexedBy, spanned, rawAt};
+ghost use Rattle.answers.specs.Places.{inMap};
+ghost use Rattle.chars.specs.Classes.{keylikeStart};
+ghost use Rattle.tokens.specs.Tokens.{ruleOf, asToken, slashRule, dashRule, classedBy, percentRule, asWord, asString, lexedBy, spanned, rawAt};
 ghost use Rattle.tokens.specs.inner.Runs.{classOf};
+ghost use Rattle.tokens.specs.inner.Settled.{ruleBy, settled};
 
 // The rule that a first character calls for: one choice over character numbers and ranges.
 fn rule_of(c: u32) -> Rule
@@ -140,16 +143,47 @@ fn word_rule(text: &[u8], offset: u32, at: Place, next: Place) -> Lexed
     }
 }
 
-// A first character that its class decides on: a word, 7 or 9.
-fn classed_rule(text: &[u8], offset: u32, at: Place, c: u32, next: Place) -> Lexed
-    requires { ⌜ (at .0 ≤ next .0) × (next .0 ≤ length (now text)) ⌝ }
-    ensures { λ r. ⌜ r ≡ lexedBy Rule.Classed (now (text .entry)) offset at c (foldedFrom (now (text .entry)) next) ⌝ }
+// The rule of a character that its class decides on.
+fn rule_by_class(c: u32) -> Rule
+    ensures { λ r. ⌜ r ≡ ruleBy (keylikeStart c) ⌝ }
 {
     match chars::is_keylike_start(c) {
-        Class::Inside => word_rule(text, offset, at, next),
-        Class::Outside => Lexed::Not(Refusal::Unexpected(answers::in_map(offset, at), c)),
-        Class::Unknown => Lexed::Not(Refusal::Unclassified(answers::in_map(offset, at), c)),
+        Class::Inside => Rule::Word,
+        Class::Outside => Rule::Classed,
+        Class::Unknown => Rule::Classed,
     }
+}
+
+// The rule that a first character calls for, with its class asked where that decides. Most words begin with a small letter, so that comes first.
+fn settled_rule(c: u32) -> Rule
+    ensures { λ r. ⌜ r ≡ settled (ruleOf c) c ⌝ }
+{
+    if terms::within(0x61, 0x7A, c) {
+        return Rule::Word;
+    }
+    match rule_of(c) {
+        Rule::Blanks => Rule::Blanks,
+        Rule::Slash => Rule::Slash,
+        Rule::Dash => Rule::Dash,
+        Rule::Percent => Rule::Percent,
+        Rule::Quote => Rule::Quote,
+        Rule::Digits => Rule::Digits,
+        Rule::Word => Rule::Word,
+        Rule::Mark(kind) => Rule::Mark(kind),
+        Rule::Classed => rule_by_class(c),
+    }
+}
+
+// A first character that no rule takes: 9 where its class is not known, else 7.
+fn no_rule(offset: u32, at: Place, c: u32) -> Lexed
+    requires { ⌜ (keylikeStart c ≡ Class.Inside → ⊥) ⌝ }
+    ensures { λ r. ⌜ ((word : Lexed) → r ≡ classedBy (keylikeStart c) offset at c word (Lexed.Not (Refusal.Unexpected (inMap offset at) c))) ⌝ }
+{
+    let start = answers::in_map(offset, at);
+    if let Class::Unknown = chars::is_keylike_start(c) {
+        return Lexed::Not(Refusal::Unclassified(start, c));
+    }
+    Lexed::Not(Refusal::Unexpected(start, c))
 }
 
 // A string's end.
@@ -167,7 +201,7 @@ fn lexed_by(text: &[u8], offset: u32, at: Place, c: u32, next: Place) -> Lexed
     requires { ⌜ (at .0 ≤ next .0) × (next .0 ≤ length (now text)) ⌝ }
     ensures { λ r. ⌜ r ≡ lexedBy (ruleOf c) (now (text .entry)) offset at c (foldedFrom (now (text .entry)) next) ⌝ }
 {
-    match rule_of(c) {
+    match settled_rule(c) {
         Rule::Blanks => as_token(Token::Whitespace, run_from(text, offset, next, Run::Blanks)),
         Rule::Slash => slash_rule(text, offset, at, next),
         Rule::Dash => dash_rule(text, next),
@@ -179,7 +213,7 @@ fn lexed_by(text: &[u8], offset: u32, at: Place, c: u32, next: Place) -> Lexed
         Rule::Digits => as_token(Token::Integer, run_from(text, offset, next, Run::Digits)),
         Rule::Word => word_rule(text, offset, at, next),
         Rule::Mark(kind) => Lexed::As(kind, next),
-        Rule::Classed => classed_rule(text, offset, at, c, next),
+        Rule::Classed => no_rule(offset, at, c),
     }
 }
 

@@ -2,6 +2,7 @@
 -- `staged-tabled` in proofs/StageLaws.antt ties both to `tabled`.
 use Prim.Native.Nat.{ℕ, _+_, _*_, _≤_}
 use mathlib.Core.Path.{_≡_}
+use mathlib.Core.Bool.{Bool, true}
 use mathlib.Core.List.{List, _++_}
 use lib.ListN.{length, take, drop}
 use lib.Dec.{leb}
@@ -35,6 +36,11 @@ pub record Staged (bytes : ℕ) (r : Rows) (answer : Listed) (before after : Lis
 -- A stage has the rows of a count that is under the cap.
 pub record Deliverable (answer : Listed) (stage : List ℕ) : Type 0 where
   pub held : (n : ℕ) → answer ≡ Count n → n ≤ rowCap → n * rowWords ≤ length stage
+
+-- A small stage has room for the rows of an answer.
+unfoldable pub fits : Listed → Bool
+fits (Count n) = leb n 512
+fits (Refused f) = true
 
 -- What is then answered and written: 24, 25, or that many rows of the stage.
 unfoldable pub delivered : Listed → List ℕ → List ℕ → Listed × List ℕ

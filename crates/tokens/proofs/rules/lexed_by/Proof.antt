@@ -1,12 +1,19 @@
-use Rattle.tokens.specs.Tokens.{lexedBy}
+use mathlib.Core.Path.{_≡_, sym, _∙_}
+use Rattle.chars.specs.View.{foldedFrom}
+use Rattle.tokens.specs.Tokens.{ruleOf, lexedBy}
+use Rattle.tokens.proofs.SettledLaws.{settled-same, settled-not}
 use Rattle.tokens.specs.inner.Runs.{classOf}
 use Rattle.chars.proofs.ViewLaws.{folded-place}
 use borrow.Author.Needs.{needs}
 use Rattle.tokens.proofs.rules.lexed_by.Statement.{statement}
 use Rattle.tokens.proofs.rules.lexed_by.Tie as tie
 
-rule-of-requires : tie.Need-rule-of-requires
-rule-of-requires c κs = search needs
+-- the settled rule says the same
+same : (c : tie.After-settled-rule) → lexedBy (c .settled-rule .result) (c .before .before .args .text .now) (c .before .before .args .offset) (c .before .before .args .at) (c .before .before .args .c) (foldedFrom (c .before .before .args .text .now) (c .before .before .args .next)) ≡ lexedBy (ruleOf (c .before .before .args .c)) (c .before .before .args .text .now) (c .before .before .args .offset) (c .before .before .args .at) (c .before .before .args .c) (foldedFrom (c .before .before .args .text .now) (c .before .before .args .next))
+same c = rw (c .settled-rule .ensures) (settled-same _ _ _ _ _ _)
+
+settled-rule-requires : tie.Need-settled-rule-requires
+settled-rule-requires c κs = search needs
 
 enum-told : tie.Need-enum-told
 enum-told c = search needs
@@ -68,50 +75,50 @@ enum-known-kind c = search needs
 enum-told-8 : tie.Need-enum-told-8
 enum-told-8 c = search needs
 
-classed-rule-requires : tie.Need-classed-rule-requires
-classed-rule-requires c κs = search needs
+no-rule-requires : tie.Need-no-rule-requires
+no-rule-requires c κs i = settled-not _ _ (sym (c .before .before .settled-rule .ensures) ∙ c .enum-told8 .given .1) i
 
 returns : tie.Need-returns
 unfolding lexedBy classOf
-returns c = rw (← c .before .before .before .before .rule-of .ensures, c .before .before .enum-told .given .1, ← c .before .run-from .ensures) (c .as-token .ensures)
+returns c = rw (← same (c .before .before .before .before), c .before .before .enum-told .given .1, ← c .before .run-from .ensures) (c .as-token .ensures)
 
 returns-2 : tie.Need-returns-2
 unfolding lexedBy classOf
-returns-2 c = rw (← c .before .before .before .rule-of .ensures, c .before .enum-told2 .given .1) (c .slash-rule .ensures)
+returns-2 c = rw (← same (c .before .before .before), c .before .enum-told2 .given .1) (c .slash-rule .ensures)
 
 returns-3 : tie.Need-returns-3
 unfolding lexedBy classOf
-returns-3 c = rw (← c .before .before .before .rule-of .ensures, c .before .enum-told3 .given .1) (c .dash-rule .ensures)
+returns-3 c = rw (← same (c .before .before .before), c .before .enum-told3 .given .1) (c .dash-rule .ensures)
 
 returns-4 : tie.Need-returns-4
 unfolding lexedBy classOf
-returns-4 c = rw (← c .before .before .before .rule-of .ensures, c .before .enum-told4 .given .1) (c .percent-rule .ensures)
+returns-4 c = rw (← same (c .before .before .before), c .before .enum-told4 .given .1) (c .percent-rule .ensures)
 
 returns-5 : tie.Need-returns-5
 unfolding lexedBy classOf
-returns-5 c = rw (← c .before .before .before .before .before .rule-of .ensures, c .before .before .before .enum-told5 .given .1, folded-place, ← c .before .before .in-map .ensures, ← c .before .expect-string-literal .ensures) (c .as-string .ensures)
+returns-5 c = rw (← same (c .before .before .before .before .before), c .before .before .before .enum-told5 .given .1, folded-place, ← c .before .before .in-map .ensures, ← c .before .expect-string-literal .ensures) (c .as-string .ensures)
 
 returns-6 : tie.Need-returns-6
 unfolding lexedBy classOf
-returns-6 c = rw (← c .before .before .before .before .rule-of .ensures, c .before .before .enum-told6 .given .1, ← c .before .run-from2 .ensures) (c .as-token2 .ensures)
+returns-6 c = rw (← same (c .before .before .before .before), c .before .before .enum-told6 .given .1, ← c .before .run-from2 .ensures) (c .as-token2 .ensures)
 
 returns-7 : tie.Need-returns-7
 unfolding lexedBy classOf
-returns-7 c = rw (← c .before .before .before .rule-of .ensures, c .before .enum-told7 .given .1) (c .word-rule .ensures)
+returns-7 c = rw (← same (c .before .before .before), c .before .enum-told7 .given .1) (c .word-rule .ensures)
 
 returns-8 : tie.Need-returns-8
 unfolding lexedBy classOf
-returns-8 c = rw (← c .before .before .before .rule-of .ensures, c .before .kind .given .1, folded-place)
+returns-8 c = rw (← same (c .before .before .before), c .before .kind .given .1, folded-place)
 
 returns-9 : tie.Need-returns-9
 unfolding lexedBy classOf
-returns-9 c = rw (← c .before .before .before .rule-of .ensures, c .before .enum-told8 .given .1) (c .classed-rule .ensures)
+returns-9 c = rw (← same (c .before .before .before), c .before .enum-told8 .given .1) (c .no-rule .ensures _)
 
 pub lexed-by-spec : {M : Type 1} → statement M
 lexed-by-spec =
     tie.close
     (tie.spec
-    rule-of-requires
+    settled-rule-requires
     enum-told
     run-from-requires
     as-token-requires
@@ -132,7 +139,7 @@ lexed-by-spec =
     word-rule-requires
     enum-known-kind
     enum-told-8
-    classed-rule-requires
+    no-rule-requires
     returns
     returns-2
     returns-3
