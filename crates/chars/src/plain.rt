@@ -96,7 +96,8 @@ pub fn plain_end(text: &[u8], at: Place, x: u8, y: u8, z: u8) -> Place
         if stop < k + 64 {
             return Place(stop as u32);
         }
-        k = stop;
+        // that is `stop`, but the next 64 need not wait for it
+        k = k + 64;
     }
     Place(stop_near(text, k, end, x, y, z) as u32)
 }

@@ -1,4 +1,4 @@
-use Prim.Native.Nat.{ℕ, _-_, _≤_, max}
+use Prim.Native.Nat.{ℕ, _+_, _-_, _≤_, max}
 use mathlib.Core.Path.{_≡_, refl, sym, ap, _∙_}
 use native.Mathlib.Omega.{arith}
 use borrow.Author.Needs.{needs}
@@ -57,11 +57,15 @@ cast-t15 c = omega (arith, c .before .before .before .before .before .before .be
 returns-2 : tie.Need-returns-2 Inv-loop μ-loop
 returns-2 c = ends (c .before .before .before .before .before .before) _ (first-found _ 64 _ _ (c .before .before .before .before .before .loop-test .taken) (rw (← c .before .stop-in .ensures) (c .if2 .taken)) ∙ sym (c .before .stop-in .ensures))
 
+add-k : tie.Need-add-k Inv-loop μ-loop
+add-k c = omega (arith, c .before .before .before .before .before .before .before .before .limit .ensures)
+
 loop-less : tie.Need-loop-less Inv-loop μ-loop
 loop-less c = search needs
 
 loop-again : tie.Need-loop-again Inv-loop μ-loop
-loop-again c = (omega (arith, c .before .stop-in .ensures, first-le (haltsAt (c .before .before .before .before .before .before .before .before .before .before .args .text .now) (c .before .before .before .before .before .before .before .before .before .before .args .x) (c .before .before .before .before .before .before .before .before .before .before .args .y) (c .before .before .before .before .before .before .before .before .before .before .args .z)) 64 (c .before .before .before .before .before .before .loop .k)), rw (c .before .stop-in .ensures) (c .before .before .before .before .before .before .loop .inv .1 ∙ first-part _ 64 _ _ (c .before .before .before .before .before .loop-test .taken)))
+loop-again c =
+    let e : first (haltsAt (c .before .before .before .before .before .before .before .before .before .before .args .text .now) (c .before .before .before .before .before .before .before .before .before .before .args .x) (c .before .before .before .before .before .before .before .before .before .before .args .y) (c .before .before .before .before .before .before .before .before .before .before .args .z)) (c .before .before .before .before .before .before .loop .k) 64 ≡ c .before .before .before .before .before .before .loop .k + 64 = omega (arith, c .before .stop-in .ensures, first-le (haltsAt (c .before .before .before .before .before .before .before .before .before .before .args .text .now) (c .before .before .before .before .before .before .before .before .before .before .args .x) (c .before .before .before .before .before .before .before .before .before .before .args .y) (c .before .before .before .before .before .before .before .before .before .before .args .z)) 64 (c .before .before .before .before .before .before .loop .k)) in (omega arith, c .before .before .before .before .before .before .loop .inv .1 ∙ rw e at (first-part (haltsAt (c .before .before .before .before .before .before .before .before .before .before .args .text .now) (c .before .before .before .before .before .before .before .before .before .before .args .x) (c .before .before .before .before .before .before .before .before .before .before .args .y) (c .before .before .before .before .before .before .before .before .before .before .args .z)) 64 (c .before .before .before .before .before .before .loop .k) (c .before .before .before .before .before .before .before .before .limit .result) (c .before .before .before .before .before .loop-test .taken)))
 
 stop-near-requires : tie.Need-stop-near-requires Inv-loop μ-loop
 stop-near-requires c κs = omega (arith, c .before .before .before .limit .ensures)
@@ -90,6 +94,7 @@ plain-end-spec =
     add-if2
     cast-t15
     returns-2
+    add-k
     loop-less
     loop-again
     stop-near-requires
