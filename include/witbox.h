@@ -92,7 +92,9 @@ enum witbox_number {
     /* a dependency that is not listed; detail: its index */
     WITBOX_ITEM_NOT_FOUND = 29,
     /* cycle; detail: the first listed dependency with neither end placed */
-    WITBOX_TYPE_CYCLE = 30
+    WITBOX_TYPE_CYCLE = 30,
+    /* a list that is no load order of the sheet; detail: its first index at fault, or the length of a short list without a fault */
+    WITBOX_NOT_AN_ORDER = 33
 };
 
 /* The kinds of tokens. */

@@ -1,4 +1,4 @@
--- 01, "Numbers that come back": the number, the position and the detail of each answer.
+-- 01, "Numbers that come back", and 33 of 02, §6: the number, the position and the detail of each answer.
 use Prim.Native.Nat.{ℕ, _+_, _*_}
 use Rattle.answers.specs.declared.Numbers.{Numbers}
 use Rattle.answers.specs.declared.Verdict.{Verdict}
@@ -41,6 +41,7 @@ told Refusal.TooManyItems = row 27 0 0
 told (Refusal.RepeatedName item) = row 28 0 item
 told (Refusal.ItemNotFound dependency) = row 29 0 dependency
 told (Refusal.TypeCycle dependency) = row 30 0 dependency
+told (Refusal.NotAnOrder index) = row 33 0 index
 
 -- Accepted is 0, 0 and 0.
 unfoldable pub toldOf : Verdict → Numbers

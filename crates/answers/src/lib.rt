@@ -1,5 +1,6 @@
 //! What every call answers with: places and positions, spans, the refusals of the interface paper's table, and the three numbers that stand for each.
 ghost use mathlib.Core.Path.{_≡_};
+ghost use Prim.Native.Nat.{_+_, _*_};
 ghost use Rattle.answers.specs.Places.{inMap};
 ghost use Rattle.answers.specs.Caps.{lengthVerdict, textVerdict};
 ghost use Rattle.answers.specs.Refusals.{row, told, toldOf};
@@ -21,7 +22,7 @@ pub struct Ill {
     pub at: Place,
 }
 
-// Why a call refuses, in the order of the paper's numbers, 1 to 30. Where lex.rs has an error of that meaning, the name is its.
+// Why a call refuses, in the order of the paper's numbers, 1 to 30 and 33. Where lex.rs has an error of that meaning, the name is its.
 pub enum Refusal {
     TooLong(u32),
     OutOfMap,
@@ -54,6 +55,8 @@ pub enum Refusal {
     RepeatedName(u32),
     ItemNotFound(u32),
     TypeCycle(u32),
+    // the first index of a proposed list that is at fault
+    NotAnOrder(u32),
 }
 
 // The answer of a check that hands nothing back.
@@ -114,6 +117,13 @@ fn row(number: u32, position: u32, detail: u32) -> Numbers
     }
 }
 
+// 21's detail: the kind wanted and the kind found in one number.
+fn kinds(expected: u8, found: u8) -> u32
+    ensures { λ r. ⌜ r ≡ 256 * expected + found ⌝ }
+{
+    256 * expected as u32 + found as u32
+}
+
 impl Refusal {
     // The three numbers of a refusal.
     pub fn numbers(self) -> Numbers
@@ -140,11 +150,7 @@ impl Refusal {
             Refusal::InvalidUnicodeValue(at, n) => row(18, at.0, n),
             Refusal::IdPartEmpty(at) => row(19, at.0, 0),
             Refusal::InvalidCharInId(at, c) => row(20, at.0, c),
-            Refusal::Wanted(at, expected, found) => row(
-                21,
-                at.0,
-                256 * expected as u32 + found as u32,
-            ),
+            Refusal::Wanted(at, expected, found) => row(21, at.0, kinds(expected, found)),
             Refusal::BadSpan => row(22, 0, 0),
             Refusal::BeyondText => row(23, 0, 0),
             Refusal::TooManyRows(rows) => row(24, 0, rows),
@@ -154,6 +160,7 @@ impl Refusal {
             Refusal::RepeatedName(item) => row(28, 0, item),
             Refusal::ItemNotFound(dependency) => row(29, 0, dependency),
             Refusal::TypeCycle(dependency) => row(30, 0, dependency),
+            Refusal::NotAnOrder(index) => row(33, 0, index),
         }
     }
 

@@ -126,17 +126,8 @@ row-requires-20 c κs = search needs
 enum-known-self-20 : tie.Need-enum-known-self-20
 enum-known-self-20 c = search needs
 
-cast-row : tie.Need-cast-row
-cast-row c = search needs
-
-mul-row : tie.Need-mul-row
-mul-row c = search needs
-
-cast-row-2 : tie.Need-cast-row-2
-cast-row-2 c = search needs
-
-add-row : tie.Need-add-row
-add-row c = search needs
+kinds-requires : tie.Need-kinds-requires
+kinds-requires c κs = search needs
 
 row-requires-21 : tie.Need-row-requires-21
 row-requires-21 c κs = search needs
@@ -194,6 +185,12 @@ enum-known-self-25 c = search needs
 
 row-requires-30 : tie.Need-row-requires-30
 row-requires-30 c κs = search needs
+
+enum-known-self-26 : tie.Need-enum-known-self-26
+enum-known-self-26 c = search needs
+
+row-requires-31 : tie.Need-row-requires-31
+row-requires-31 c κs = search needs
 
 returns : tie.Need-returns
 unfolding told
@@ -277,7 +274,7 @@ returns-20 c = rw (c .before .before .self19 .given .1) (c .row20 .ensures)
 
 returns-21 : tie.Need-returns-21
 unfolding told
-returns-21 c = rw (c .before .before .self20 .given .1) (c .row21 .ensures)
+returns-21 c = rw (c .before .before .before .self20 .given .1, ← c .before .kinds .ensures) (c .row21 .ensures)
 
 returns-22 : tie.Need-returns-22
 unfolding told
@@ -314,6 +311,10 @@ returns-29 c = rw (c .before .before .self24 .given .1) (c .row29 .ensures)
 returns-30 : tie.Need-returns-30
 unfolding told
 returns-30 c = rw (c .before .before .self25 .given .1) (c .row30 .ensures)
+
+returns-31 : tie.Need-returns-31
+unfolding told
+returns-31 c = rw (c .before .before .self26 .given .1) (c .row31 .ensures)
 
 pub numbers-spec : {M : Type 1} → statement M
 numbers-spec =
@@ -360,10 +361,7 @@ numbers-spec =
     enum-known-self-19
     row-requires-20
     enum-known-self-20
-    cast-row
-    mul-row
-    cast-row-2
-    add-row
+    kinds-requires
     row-requires-21
     enum-told-2
     row-requires-22
@@ -383,6 +381,8 @@ numbers-spec =
     row-requires-29
     enum-known-self-25
     row-requires-30
+    enum-known-self-26
+    row-requires-31
     returns
     returns-2
     returns-3
@@ -412,4 +412,5 @@ numbers-spec =
     returns-27
     returns-28
     returns-29
-    returns-30)
+    returns-30
+    returns-31)
