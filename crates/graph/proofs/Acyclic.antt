@@ -1,25 +1,26 @@
 -- The clerk's order is whole exactly if no chain of dependencies leads from an item to itself. It is then a permutation of the items, with each
 -- dependency before what needs it. Where it is not whole, some edge has both ends unplaced.
 use Prim.Native.Nat.{ℕ, zero, suc, _+_, _≤_, _<_}
-use mathlib.Core.Path.{_≡_, refl, sym, ap, _∙_}
-use mathlib.Core.Bool.{Bool, true, false, not, _&&_, _||_, or-false}
-use mathlib.Core.List.{List, [], _∷_, _++_, Memᴰ·cast}
+use mathlib.Core.Path.{_≡_, refl}
+use mathlib.Core.Bool.{Bool, true, false, not, _&&_, _||_}
+use mathlib.Core.List.{List, [], _∷_, _++_}
 use mathlib.Core.Logic.{_⊎_, inl, inr, ⊎-elim, _↔_}
 use native.Mathlib.Nat.{eq-or-lt-of-le}
 use native.Mathlib.Omega.{arith}
 use lib.ListN.{length, take, length-append, List·getD-append}
 use lib.Seq.{getD-append-seam, take-append-seam, take-append-le}
 use lib.Dec.{eqb, ltb}
-use borrow.Author.Tests.{eq-eqb, eqb-true, eqb-false, ltb-true, ltb-false, not-true, not-false}
-use Rattle.terms.specs.Terms.{if_then_else_, bit, count, member}
-use Rattle.graph.specs.Order.{Edge, waits, unmet, ready, next, placing, order, noEdge, stuckAt, firstStuck}
+use borrow.Author.Tests.{eqb-true, eqb-false, ltb-true, ltb-false}
+use Rattle.terms.specs.Terms.{if_then_else_, count, member}
+use Rattle.graph.specs.Order.{Edge, unmet, ready, next, placing, order, noEdge, stuckAt, firstStuck}
 use Rattle.graph.specs.Chain.{Has, Chain, Acyclic, Targeted, Permutation, Ordered}
 use Rattle.graph.specs.Chain.Chain.{one, more}
-use Rattle.terms.proofs.TestLaws.{and-both, or-either, clash, fails}
+use Rattle.terms.proofs.TestLaws.{and-both, or-either, clash}
 use Rattle.terms.proofs.FirstLaws.{first-none}
-use Rattle.terms.proofs.CountLaws.{member-snoc, count-none, count-some, mem-at}
-use Rattle.graph.proofs.OrderLaws.{next-new, next-ready}
-use Rattle.graph.proofs.Unseen.{unseen, unseen-nil, unseen-snoc, unseen-none, unseen-some}
+use Rattle.terms.proofs.CountLaws.{member-snoc, mem-at}
+use Rattle.graph.proofs.OrderLaws.{next-new, next-ready, unmet-none, unmet-some}
+use Rattle.graph.proofs.Unseen.{unseen, unseen-snoc, unseen-none, unseen-some}
+use Rattle.graph.proofs.Distinct.{Distinct, distinct-none, distinct-more, distinct-whole}
 
 or-in : (a b : Bool) → a ≡ true → (a || b) ≡ true
 or-in a b h = rw h
@@ -43,26 +44,8 @@ below a b h = go (ltb a b) refl
 record Built (es : List Edge) (n : ℕ) (placed : List ℕ) : Type 0 where
   closed : (a b : ℕ) → member a placed ≡ true → Has es a b → member b placed ≡ true
   no-loop : (a : ℕ) → member a placed ≡ true → Chain es a a → ⊥
-  once : unseen n placed + length placed ≡ n
-  each : (i : ℕ) → count (eqb i) placed ≡ bit (member i placed)
-  items : (i : ℕ) → member i placed ≡ true → i < n
+  distinct : Distinct n placed
   sorted : Ordered es placed
-
--- one more at the end of a list: how often a number then stands there
-count-snoc : (i x : ℕ) (xs : List ℕ) → count (eqb i) (xs ++ (x ∷ [])) ≡ count (eqb i) xs + bit (eqb i x)
-unfolding count
-count-snoc i x [] = omega arith
-count-snoc i x (y ∷ ys) = omega (arith, count-snoc i x ys)
-
-each-snoc : (i x : ℕ) (xs : List ℕ) → member x xs ≡ false → count (eqb i) xs ≡ bit (member i xs) → count (eqb i) (xs ++ (x ∷ [])) ≡ bit (member i (xs ++ (x ∷ [])))
-each-snoc i x xs new h = rw (count-snoc i x xs, member-snoc i x xs) (go (eqb i x) refl)
-  where
-    go : (b : Bool) → eqb i x ≡ b → count (eqb i) xs + bit b ≡ bit (member i xs || b)
-    go true q =
-        let m : member i xs ≡ false = rw (eqb-true i x q) new in
-        let z : count (eqb i) xs ≡ 0 = rw m at h in
-        rw (z, m)
-    go false q = rw (or-false (member i xs)) (omega arith)
 
 -- what stands before the entry at k, with one more at the end
 ordered-snoc : (es : List Edge) (x : ℕ) (xs : List ℕ) → Ordered es xs → ((b : ℕ) → Has es x b → member b xs ≡ true) → Ordered es (xs ++ (x ∷ []))
@@ -83,24 +66,19 @@ module _ (es : List Edge) (n : ℕ) where
   built-none = record {
     closed = λ a b h e. absurd (clash false h refl);
     no-loop = λ a h t. absurd (clash false h refl);
-    once = omega (arith, unseen-nil n);
-    each = λ i. refl;
-    items = λ i h. absurd (clash false h refl);
+    distinct = distinct-none n;
     sorted = λ k b l h. absurd (omega arith);
   }
 
   module _ (placed : List ℕ) (β : Built es n placed) (l : next es n placed < n) where
     -- what the next item depends on is placed
     met : (b : ℕ) → Has es (next es n placed) b → member b placed ≡ true
-    met b h = go (count-none (waits placed (next es n placed)) es none (record { item = next es n placed; target = b }) h)
+    met b h = unmet-none es placed (next es n placed) none b h
       where
         none : unmet es placed (next es n placed) ≡ 0
         none =
             eqb-true (unmet es placed (next es n placed)) 0
             (and-both (not (member (next es n placed) placed)) (eqb (unmet es placed (next es n placed)) 0) (next-ready es n placed l) .1)
-
-        go : (eqb (next es n placed) (next es n placed) && not (member b placed)) ≡ false → member b placed ≡ true
-        go h = not-false _ (rw (eq-eqb (next es n placed) (next es n placed) refl) at h)
 
     fresh : member (next es n placed) placed ≡ true → ⊥
     fresh m = clash _ m (next-new es n placed l)
@@ -117,9 +95,7 @@ module _ (es : List Edge) (n : ℕ) where
     built-more = record {
       closed = λ a b m h. ⊎-elim (λ k. later b (β .closed a b k h)) (λ k. later b (met b (rw (eqb-true a (next es n placed) k) at h))) (split a m);
       no-loop = λ a m t. ⊎-elim (λ k. β .no-loop a k t) (λ k. round t (eqb-true _ _ k) (eqb-true _ _ k)) (split a m);
-      once = omega (arith, β .once, unseen-snoc (next es n placed) placed (next-new es n placed l) n l, length-append placed (next es n placed ∷ []));
-      each = λ i. each-snoc i (next es n placed) placed (next-new es n placed l) (β .each i);
-      items = λ i m. ⊎-elim (λ k. β .items i k) (λ k. rw (eqb-true i (next es n placed) k) l) (split i m);
+      distinct = distinct-more n placed (β .distinct) (next es n placed) l (next-new es n placed l);
       sorted = ordered-snoc es (next es n placed) placed (β .sorted) met;
     }
       where
@@ -145,15 +121,11 @@ module _ (es : List Edge) (n : ℕ) where
 
   -- a whole order has no chain from an item to itself
   pub whole-acyclic : length (order es n) ≡ n → Acyclic es n
-  whole-acyclic h a l t = final .built .no-loop a (unseen-none n (order es n) (omega (arith, final .built .once)) a l) t
+  whole-acyclic h a l t = final .built .no-loop a (unseen-none n (order es n) (omega (arith, final .built .distinct .lacks)) a l) t
 
   -- it has each item once and nothing else, and each dependency before what needs it
   pub whole-permutation : length (order es n) ≡ n → Permutation n (order es n)
-  whole-permutation h i = final .built .each i ∙ go (ltb i n) refl
-    where
-      go : (b : Bool) → ltb i n ≡ b → bit (member i (order es n)) ≡ bit b
-      go true q = ap bit (unseen-none n (order es n) (omega (arith, final .built .once)) i (ltb-true i n q))
-      go false q = ap bit (fails (member i (order es n)) (λ m. absurd (omega (arith, final .built .items i m, ltb-false i n q))))
+  whole-permutation h = distinct-whole n (order es n) (final .built .distinct) h
 
   -- in any case what is placed stands after all that it needs
   pub order-ordered : Ordered es (order es n)
@@ -166,11 +138,7 @@ module _ (es : List Edge) (n : ℕ) where
       where
         go : (b : Bool) → eqb (unmet es placed k) 0 ≡ b → (not (member k placed) && eqb (unmet es placed k) 0) ≡ false → (b : ℕ) × Has es k b × (member b placed ≡ false)
         go true q h = absurd (clash (not (member k placed) && eqb (unmet es placed k) 0) (let z : (not (member k placed) && eqb (unmet es placed k) 0) ≡ true = rw (m, q) in z) h)
-        go false q h =
-            let some : 1 ≤ unmet es placed k = omega (arith, eqb-false (unmet es placed k) 0 q) in
-            let r = count-some (waits placed k) es some in
-            let own : r .0 .item ≡ k = eqb-true (r .0 .item) k (and-both (eqb (r .0 .item) k) (not (member (r .0 .target) placed)) (r .2) .0) in
-            (r .0 .target, Memᴰ·cast (λ i. record { item = sym own i; target = r .0 .target }) (r .1), not-true (member (r .0 .target) placed) (and-both (eqb (r .0 .item) k) (not (member (r .0 .target) placed)) (r .2) .1))
+        go false q h = unmet-some es placed k (omega (arith, eqb-false (unmet es placed k) 0 q))
 
     module _ (names : Targeted es n) where
       -- a walk along unplaced items, each of which has a chain to the item k where the walk stands, comes round
@@ -191,12 +159,12 @@ module _ (es : List Edge) (n : ℕ) where
     where
       go : (length (order es n) ≡ n) ⊎ (n ≤ next es n (order es n)) → length (order es n) ≡ n
       go (inl e) = e
-      go (inr s) = short (eq-or-lt-of-le (omega (arith, final .built .once)))
+      go (inr s) = short (eq-or-lt-of-le (omega (arith, final .built .distinct .lacks)))
         where
           short : (length (order es n) ≡ n) ⊎ (length (order es n) < n) → length (order es n) ≡ n
           short (inl e) = e
           short (inr lt) =
-              let i = unseen-some n (order es n) (omega (arith, final .built .once)) in
+              let i = unseen-some n (order es n) (omega (arith, final .built .distinct .lacks)) in
               let r = walk (order es n) s names (unseen n []) [] (i .0) (omega arith) (i .1) (i .2) (λ p w. absurd (nowhere p w)) in
               absurd (h (r .0) (r .1) (r .2))
 
@@ -211,7 +179,7 @@ module _ (es : List Edge) (n : ℕ) where
       go : (length (order es n) ≡ n) ⊎ (n ≤ next es n (order es n)) → firstStuck es (order es n) < length es
       go (inl e) = absurd (short e)
       go (inr s) =
-          let i = unseen-some n (order es n) (omega (arith, final .built .once)) in
+          let i = unseen-some n (order es n) (omega (arith, final .built .distinct .lacks)) in
           let r = onward (order es n) s (i .0) (i .1) (i .2) in
           let k = mem-at es noEdge (record { item = i .0; target = r .0 }) (r .1) in
           let yes : stuckAt es (order es n) (k .0) ≡ true = rw (k .2, i .2, r .2) in

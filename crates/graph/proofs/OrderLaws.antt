@@ -2,16 +2,17 @@
 use Prim.Native.Nat.{ℕ, zero, suc, _+_, _≤_, _<_}
 use mathlib.Core.Path.{_≡_, refl, sym, ap}
 use mathlib.Core.Bool.{Bool, true, false, not, _&&_, _||_}
-use mathlib.Core.List.{List, [], _∷_, _++_}
+use mathlib.Core.List.{List, [], _∷_, _++_, Memᴰ·cast}
 use native.Mathlib.Omega.{arith}
 use lib.ListN.{length, getD}
 use lib.Dec.{eqb}
-use borrow.Author.Tests.{eqb-true, lt-ltb, le-ltb, not-true}
+use borrow.Author.Tests.{eq-eqb, eqb-true, lt-ltb, le-ltb, not-true, not-false}
 use Rattle.terms.specs.Terms.{bit, count, member}
 use Rattle.graph.specs.Order.{Edge, edges, waits, unmet, ready, next, placing, isSettled, settled, noEdge}
+use Rattle.graph.specs.Chain.{Has}
 use Rattle.terms.proofs.TestLaws.{and-both}
 use Rattle.terms.proofs.FirstLaws.{first-passes}
-use Rattle.terms.proofs.CountLaws.{count-sum, member-snoc}
+use Rattle.terms.proofs.CountLaws.{count-sum, count-none, count-some, member-snoc}
 
 -- the edges as the code reads them
 
@@ -34,6 +35,20 @@ hits x i e = eqb (e .item) i && eqb (e .target) x
 
 abbrev pub names : ℕ → Edge → Bool
 names x e = eqb (e .target) x
+
+-- an item with nothing unmet has all that it needs placed, and any other needs something that is not
+pub unmet-none : (es : List Edge) (placed : List ℕ) (x : ℕ) → unmet es placed x ≡ 0 → (b : ℕ) → Has es x b → member b placed ≡ true
+unmet-none es placed x none b h = go (count-none (waits placed x) es none (record { item = x; target = b }) h)
+  where
+    go : (eqb x x && not (member b placed)) ≡ false → member b placed ≡ true
+    go h = not-false _ (rw (eq-eqb x x refl) at h)
+
+pub unmet-some : (es : List Edge) (placed : List ℕ) (x : ℕ) → 1 ≤ unmet es placed x → (b : ℕ) × Has es x b × (member b placed ≡ false)
+unmet-some es placed x some =
+    let r = count-some (waits placed x) es some in
+    let t = and-both (eqb (r .0 .item) x) (not (member (r .0 .target) placed)) (r .2) in
+    let own : r .0 .item ≡ x = eqb-true (r .0 .item) x (t .0) in
+    (r .0 .target, Memᴰ·cast (λ i. record { item = sym own i; target = r .0 .target }) (r .1), not-true (member (r .0 .target) placed) (t .1))
 
 -- placing x takes its edges off each item's count
 pub unmet-snoc : (es : List Edge) (placed : List ℕ) (x i : ℕ) → member x placed ≡ false → unmet es placed i ≡ unmet es (placed ++ (x ∷ [])) i + count (hits x i) es

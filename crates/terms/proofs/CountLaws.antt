@@ -1,7 +1,7 @@
 -- What a loop that counts needs of `count`, and what a count or a membership says.
 use Prim.Native.Nat.{ℕ, zero, suc, _+_, _≤_, _<_}
 use mathlib.Core.Path.{_≡_, refl, sym, _∙_}
-use mathlib.Core.Bool.{Bool, true, false, _||_, or-false, or-assoc}
+use mathlib.Core.Bool.{Bool, true, false, _||_, or-true, or-false, or-assoc, false≢true}
 use mathlib.Core.List.{List, [], _∷_, _++_, List·Memᴰ, List·Memᴰ·head, List·Memᴰ·tail, List·Memᴰ·not-nil, List·Memᴰ·cases-cons}
 use mathlib.Core.Logic.{_⊎_, inl, inr}
 use native.Mathlib.Numerals.{add-one}
@@ -9,6 +9,7 @@ use native.Mathlib.Omega.{arith}
 use lib.ListN.{length, getD, take, drop, length-take, length-drop, drop-of-length-le}
 use lib.Seq.{drop-cons, getD-take, getD-drop}
 use lib.Dec.{eqb}
+use borrow.Author.Tests.{eq-eqb, eqb-true}
 use Rattle.terms.specs.Terms.{bit, count, member}
 
 pub bit-le : (b : Bool) → bit b ≤ 1
@@ -89,6 +90,45 @@ pub count-sum : {A : Type 0} (p q r : A → Bool) (xs : List A) → ((x : A) →
 unfolding count
 count-sum p q r [] h = refl
 count-sum p q r (x ∷ xs) h = omega (arith, h x, count-sum p q r xs h)
+
+-- one more at the end of a list, counted
+pub count-snoc : {A : Type 0} (test : A → Bool) (x : A) (xs : List A) → count test (xs ++ (x ∷ [])) ≡ count test xs + bit (test x)
+unfolding count
+count-snoc test x [] = omega arith
+count-snoc test x (y ∷ ys) = omega (arith, count-snoc test x ys)
+
+-- a count goes over the entries before an index and those from it on
+pub count-parts : {A : Type 0} (test : A → Bool) (xs : List A) (k : ℕ) → count test xs ≡ count test (take k xs) + count test (drop k xs)
+unfolding count
+count-parts test xs zero = omega arith
+count-parts test [] (suc k) = refl
+count-parts test (x ∷ xs) (suc k) = omega (arith, count-parts test xs k)
+
+-- what stands in a list stands at an index of it, and is counted
+pub member-at : (x : ℕ) (xs : List ℕ) → member x xs ≡ true → (j : ℕ) × (j < length xs) × (getD xs j 0 ≡ x)
+unfolding member
+member-at x [] m = absurd (false≢true m)
+member-at x (y ∷ ys) m = go (eqb x y) refl m (member-at x ys)
+  where
+    go : (b : Bool) → eqb x y ≡ b → (b || member x ys) ≡ true → (member x ys ≡ true → (j : ℕ) × (j < length ys) × (getD ys j 0 ≡ x))
+        → (j : ℕ) × (j < length (y ∷ ys)) × (getD (y ∷ ys) j 0 ≡ x)
+    go true q h ih = (0, omega arith, sym (eqb-true x y q))
+    go false q h ih = let r = ih h in (suc (r .0), omega (arith, r .1), r .2)
+
+pub at-member : (xs : List ℕ) (j : ℕ) → j < length xs → member (getD xs j 0) xs ≡ true
+unfolding member
+at-member [] j l = absurd (omega arith)
+at-member (x ∷ xs) zero l = rw (eq-eqb x x refl)
+at-member (x ∷ xs) (suc j) l = rw (at-member xs j (omega arith), or-true (eqb (getD xs j 0) x))
+
+pub member-counted : (x : ℕ) (xs : List ℕ) → member x xs ≡ true → 1 ≤ count (eqb x) xs
+unfolding member count
+member-counted x [] m = absurd (false≢true m)
+member-counted x (y ∷ ys) m = go (eqb x y) m (member-counted x ys)
+  where
+    go : (b : Bool) → (b || member x ys) ≡ true → (member x ys ≡ true → 1 ≤ count (eqb x) ys) → 1 ≤ bit b + count (eqb x) ys
+    go true h ih = omega arith
+    go false h ih = omega (arith, ih h)
 
 -- what stands in a list with one more at its end
 pub member-snoc : (x y : ℕ) (ys : List ℕ) → member x (ys ++ (y ∷ [])) ≡ (member x ys || eqb x y)

@@ -91,6 +91,16 @@ module _ (test : ℕ → Bool) where
   pub first-none : (n k : ℕ) → n ≤ first test 0 n → k < n → test k ≡ false
   first-none n k l h = none-before n 0 k zero-le (omega arith)
 
+  -- nothing before it passes, and it passes or is the end: that is the answer
+  pub first-is : (n r : ℕ) → r ≤ n → ((k : ℕ) → k < r → test k ≡ false) → (r < n → test r ≡ true) → first test 0 n ≡ r
+  first-is n r le before passes =
+      let e : 0 + r ≡ r = omega arith in
+      first-start n ∙ rw e at (first-skip r 0 n (omega arith) (λ k a b. before k (omega arith))) ∙ go (eq-or-lt-of-le le)
+    where
+      go : (r ≡ n) ⊎ (r < n) → first test r (n - r) ≡ r
+      go (inl e) = first-end r n (omega arith)
+      go (inr l) = first-hit r n l (passes l)
+
 -- two tests that agree below the end find the same
 pub first-cong : (p q : ℕ → Bool) (n i : ℕ) → ((k : ℕ) → i ≤ k → k < i + n → p k ≡ q k) → first p i n ≡ first q i n
 unfolding first
