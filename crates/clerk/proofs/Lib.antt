@@ -3,7 +3,7 @@ mod StateLaws
 mod Tallied
 mod Taking
 mod Ending
-mod Answering
+pub mod Answering
 mod Cases
 pub mod Theorems
 pub mod OneAnswer

@@ -71,7 +71,7 @@ module _ (ws bs : List ℕ) where
     unfolding sorted placedBy
     passes-placed p = rw p
 
-    accepted-passes : Verdict-is Accepted → Passes
+    pub accepted-passes : Verdict-is Accepted → Passes
     unfolding sorted placedBy
     accepted-passes e = go (firstOf (sheetVerdict ws bs) (roomVerdict ws out)) e
       where
@@ -79,7 +79,7 @@ module _ (ws bs : List ℕ) where
         go Accepted q = refl
         go (Refused f) q = absurd (refused-not q)
 
-    accepted-whole : Passes → Verdict-is Accepted → length theOrder ≡ items ws
+    pub accepted-whole : Passes → Verdict-is Accepted → length theOrder ≡ items ws
     unfolding placed
     accepted-whole p e = go (eqb (length theOrder) (items ws)) refl (rw (passes-placed p) at e)
       where

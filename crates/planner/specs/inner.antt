@@ -1,0 +1,2 @@
+-- What only inner contracts cite; no public contract needs it.
+pub mod Seats
