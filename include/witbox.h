@@ -205,6 +205,10 @@ struct witbox_sorted {
     uint32_t settled; /* with 0 and 30: how many listed dependencies have their target placed */
 };
 
+struct witbox_verdict {
+    uint32_t number, position, detail;
+};
+
 /*
  * Opens a text whose first byte stands at `offset` in the map: checks 1, 2, then 3 over the whole text, then 4, 5 and 6 for the
  * first character that a text may not hold. Nothing of the text is kept: the steps below take it again, and take text that was
@@ -269,6 +273,22 @@ struct witbox_named witbox_parse_explicit_id(const uint8_t *text, size_t length,
  */
 struct witbox_sorted witbox_toposort(const uint32_t *sheet, size_t words, const uint8_t *names, size_t names_length,
                                      uint32_t *order, size_t room);
+
+/*
+ * Checks a load order that somebody proposes for a sheet: a list of item numbers. It is accepted exactly if it has each of the N items
+ * once and nothing else, with every dependency before each item that needs it; it need not be the order that witbox_toposort gives.
+ * Checks 1, 26, 27, 26, 28 and 29 as witbox_toposort does; then 33, with the first index of the list whose number is N or more, comes
+ * again, or is that of an item with a dependency not earlier in the list, or with the length of a short list without such a fault.
+ */
+struct witbox_verdict witbox_check_order(const uint32_t *sheet, size_t words, const uint8_t *names, size_t names_length,
+                                         const uint32_t *list, size_t length);
+
+/*
+ * Proposes a load order for a sheet: N item numbers at the front of the list, which witbox_check_order accepts; the rest of the list
+ * stays as it was. It offers one for every sheet that witbox_toposort accepts, and else refuses as that does: today it is that order.
+ */
+struct witbox_sorted witbox_propose(const uint32_t *sheet, size_t words, const uint8_t *names, size_t names_length,
+                                     uint32_t *list, size_t room);
 
 #ifdef __cplusplus
 }

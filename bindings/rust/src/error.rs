@@ -94,6 +94,8 @@ pub enum Error {
     TooManyItems,
     /// 28: this item has the name of an earlier one.
     RepeatedName(u32),
+    /// 33: a list that is no load order: the first index at fault, or the length of a list that ends too soon.
+    NotAnOrder(u32),
     /// A number that this crate does not know, from another version of the library.
     Other {
         /// The number.
@@ -170,6 +172,7 @@ impl Error {
             27 => Error::TooManyItems,
             28 => Error::RepeatedName(detail),
             29 => Error::ItemNotFound(detail),
+            33 => Error::NotAnOrder(detail),
             _ => return None,
         })
     }
@@ -215,6 +218,7 @@ impl Error {
             Error::RepeatedName(item) => [28, 0, item],
             Error::ItemNotFound(dependency) => [29, 0, dependency],
             Error::TypeCycle { dependency, .. } => [30, 0, dependency],
+            Error::NotAnOrder(index) => [33, 0, index],
             Error::Other {
                 number,
                 position,
@@ -223,7 +227,7 @@ impl Error {
         }
     }
 
-    /// Its number in `docs/REFUSALS.md` and `include/witbox.h`, from 1 to 30.
+    /// Its number in `docs/REFUSALS.md` and `include/witbox.h`, from 1 to 30, or 33.
     pub fn number(&self) -> u32 {
         self.numbers()[0]
     }
@@ -396,6 +400,9 @@ impl fmt::Display for Error {
             Error::TypeCycle { dependency, .. } => {
                 write!(f, "the dependencies run in a circle that keeps dependency {dependency} from being met")
             }
+            Error::NotAnOrder(index) => {
+                write!(f, "the list is no load order from index {index} on")
+            }
             Error::Other {
                 number,
                 position,
@@ -413,7 +420,7 @@ mod tests {
 
     #[test]
     fn numbers_there_and_back() {
-        for number in (1..30).filter(|&number| number != 21) {
+        for number in (1..30).chain([33]).filter(|&number| number != 21) {
             let [position, detail] = Error::told(number, 0, 0).at().map_or([0, 0], |_| [7, 0]);
             let error = Error::told(number, position, detail);
             assert_eq!(error.numbers(), [number, position, detail]);

@@ -14,6 +14,8 @@ type StepCall = unsafe extern "C" fn(*const u8, usize, u32, *mut Cursor) -> Step
 type WantedCall = unsafe extern "C" fn(*const u8, usize, u32, u32, *mut Cursor) -> Step;
 type ListCall = unsafe extern "C" fn(*const u8, usize, u32, *mut u32, usize) -> Counted;
 type NameCall = unsafe extern "C" fn(*const u8, usize, u32, u32, u32) -> Named;
+type OrderCall =
+    unsafe extern "C" fn(*const u32, usize, *const u8, usize, *mut u32, usize) -> Counted;
 
 impl Counted {
     fn answer(self) -> Result<u32, Error> {
@@ -129,11 +131,10 @@ pub fn parse_explicit_id(text: &[u8], offset: u32, span: Span) -> Result<(u32, u
     named(witbox_parse_explicit_id, text, offset, span)
 }
 
-/// How many dependencies have their target placed. The item numbers are then at the order's front.
-pub fn toposort(sheet: &[u32], names: &[u8], order: &mut [u32]) -> Result<u32, Error> {
+fn ordered(call: OrderCall, sheet: &[u32], names: &[u8], order: &mut [u32]) -> Result<u32, Error> {
     let (room, order) = (order.len(), order.as_mut_ptr());
     let answer = unsafe {
-        witbox_toposort(
+        call(
             sheet.as_ptr(),
             sheet.len(),
             names.as_ptr(),
@@ -148,5 +149,32 @@ pub fn toposort(sheet: &[u32], names: &[u8], order: &mut [u32]) -> Result<u32, E
             settled: answer.count,
         }),
         _ => answer.answer(),
+    }
+}
+
+/// How many dependencies have their target placed. The item numbers are then at the order's front.
+pub fn toposort(sheet: &[u32], names: &[u8], order: &mut [u32]) -> Result<u32, Error> {
+    ordered(witbox_toposort, sheet, names, order)
+}
+
+/// The same; the item numbers are then a list that `check_order` accepts.
+pub fn propose(sheet: &[u32], names: &[u8], list: &mut [u32]) -> Result<u32, Error> {
+    ordered(witbox_propose, sheet, names, list)
+}
+
+pub fn check_order(sheet: &[u32], names: &[u8], list: &[u32]) -> Result<(), Error> {
+    let answer = unsafe {
+        witbox_check_order(
+            sheet.as_ptr(),
+            sheet.len(),
+            names.as_ptr(),
+            names.len(),
+            list.as_ptr(),
+            list.len(),
+        )
+    };
+    match answer.number {
+        0 => Ok(()),
+        _ => Err(Error::told(answer.number, answer.position, answer.detail)),
     }
 }

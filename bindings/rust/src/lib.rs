@@ -13,7 +13,7 @@ mod tokenizer;
 
 pub use error::{At, Error, Location};
 pub use listing::{list, list_raw, Row};
-pub use order::{dependency, toposort, Order};
+pub use order::{check_order, dependency, propose, toposort, Order};
 pub use span::Span;
 pub use token::Token;
 pub use tokenizer::{validate_id, Tokenizer};

@@ -26,9 +26,56 @@ pub struct Order<'a> {
 /// # Ok::<(), Error>(())
 /// ```
 pub fn toposort<'a, D: AsRef<[&'a str]>>(items: &[(&'a str, D)]) -> Result<Order<'a>, Error> {
+    ordered(ffi::toposort, items)
+}
+
+/// A load order that this library proposes for items: one for all that [`toposort`] accepts, and else its refusal. [`check_order`]
+/// accepts it. Today it is the order of [`toposort`].
+///
+/// ```
+/// use witbox::{check_order, propose, Error};
+///
+/// let items = [("desk", vec!["clock"]), ("clock", vec![])];
+/// let order = propose(&items)?;
+/// assert_eq!(order.names, ["clock", "desk"]);
+/// check_order(&items, &order.items)?;
+/// # Ok::<(), Error>(())
+/// ```
+pub fn propose<'a, D: AsRef<[&'a str]>>(items: &[(&'a str, D)]) -> Result<Order<'a>, Error> {
+    ordered(ffi::propose, items)
+}
+
+/// Whether a list of indices is a load order of items: each of them once and nothing else, and all that an item depends on before it.
+/// Whoever made it: it need not be the order of [`toposort`].
+///
+/// ```
+/// use witbox::{check_order, Error};
+///
+/// let items = [("desk", vec!["clock"]), ("clock", vec![]), ("lamp", vec![])];
+/// assert_eq!(check_order(&items, &[1, 0, 2]), Ok(()));
+/// assert_eq!(check_order(&items, &[2, 1, 0]), Ok(()));
+/// // the desk's clock is not before it; the lamp comes again; there are no items behind the last; the list ends too soon
+/// assert_eq!(check_order(&items, &[2, 0, 1]), Err(Error::NotAnOrder(1)));
+/// assert_eq!(check_order(&items, &[1, 2, 2]), Err(Error::NotAnOrder(2)));
+/// assert_eq!(check_order(&items, &[3, 1, 0]), Err(Error::NotAnOrder(0)));
+/// assert_eq!(check_order(&items, &[1, 0]), Err(Error::NotAnOrder(2)));
+/// ```
+pub fn check_order<'a, D: AsRef<[&'a str]>>(
+    items: &[(&'a str, D)],
+    list: &[usize],
+) -> Result<(), Error> {
+    let (sheet, names) = sheet(items);
+    let words: Vec<u32> = list.iter().map(|&item| word(item)).collect();
+    ffi::check_order(&sheet, &names, &words)
+}
+
+fn ordered<'a, D: AsRef<[&'a str]>>(
+    call: fn(&[u32], &[u8], &mut [u32]) -> Result<u32, Error>,
+    items: &[(&'a str, D)],
+) -> Result<Order<'a>, Error> {
     let (sheet, names) = sheet(items);
     let mut order = vec![0; items.len()];
-    let settled = ffi::toposort(&sheet, &names, &mut order)?;
+    let settled = call(&sheet, &names, &mut order)?;
     let items_in_order = order.iter().map(|&item| item as usize);
     Ok(Order {
         names: items_in_order.clone().map(|item| items[item].0).collect(),

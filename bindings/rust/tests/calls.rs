@@ -1,6 +1,6 @@
 //! What the calls leave and refuse.
 
-use witbox::{dependency, list, toposort, Error, Span, Token, Tokenizer};
+use witbox::{check_order, dependency, list, propose, toposort, Error, Span, Token, Tokenizer};
 
 #[test]
 fn where_a_tokenizer_stands() {
@@ -114,6 +114,30 @@ fn no_orders() {
     assert_eq!(toposort(&repeated), Err(Error::RepeatedName(1)));
     let missing: [(&str, &[&str]); 1] = [("a", &["b"])];
     assert_eq!(toposort(&missing), Err(Error::ItemNotFound(0)));
+}
+
+#[test]
+fn proposed_orders() {
+    let none: [(&str, &[&str]); 0] = [];
+    assert_eq!(check_order(&none, &[]), Ok(()));
+    assert_eq!(check_order(&none, &[0]), Err(Error::NotAnOrder(0)));
+    let circle = [("a", vec!["b"]), ("b", vec!["a"])];
+    assert_eq!(propose(&circle), toposort(&circle));
+    assert_eq!(check_order(&circle, &[0, 1]), Err(Error::NotAnOrder(0)));
+    let missing: [(&str, &[&str]); 1] = [("a", &["b"])];
+    assert_eq!(check_order(&missing, &[7]), Err(Error::ItemNotFound(0)));
+    assert_eq!(Error::NotAnOrder(3).numbers(), [33, 0, 3]);
+    let names: Vec<String> = (0..256).map(|number| format!("item-{number}")).collect();
+    let items: Vec<(&str, &[&str])> = names.iter().map(|name| (name.as_str(), &[][..])).collect();
+    let backwards: Vec<usize> = (0..256).rev().collect();
+    assert_eq!(check_order(&items, &backwards), Ok(()));
+    let longer = [backwards.clone(), backwards].concat();
+    assert_eq!(check_order(&items, &longer), Err(Error::NotAnOrder(256)));
+    // an index that 32 bits do not hold is no item's
+    assert_eq!(
+        check_order(&items, &[usize::MAX]),
+        Err(Error::NotAnOrder(0))
+    );
 }
 
 #[test]

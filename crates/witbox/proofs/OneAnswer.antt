@@ -24,6 +24,8 @@ use Rattle.witbox.proofs.witbox_string_literal
 use Rattle.witbox.proofs.witbox_parse_id
 use Rattle.witbox.proofs.witbox_parse_explicit_id
 use Rattle.witbox.proofs.witbox_toposort
+use Rattle.witbox.proofs.witbox_check_order
+use Rattle.witbox.proofs.witbox_propose
 
 module _ {M : Type 1} (𝓤 : URA M) (H : Heap 𝓤) (A : Atoms 𝓤) (mem : Memory → SProp 𝓤) (run : Routine → Fun 𝓤) where
   pub witbox-open-one : OneAnswer 𝓤 witbox_open.ended (witbox_open.clauses 𝓤 H A mem run)
@@ -58,3 +60,9 @@ module _ {M : Type 1} (𝓤 : URA M) (H : Heap 𝓤) (A : Atoms 𝓤) (mem : Mem
 
   pub witbox-toposort-one : OneOutcome 𝓤 witbox_toposort.ended (λ κs. SortAnswer × List ℕ) (λ κs z e. (z, now (e .1 .1 .0))) (witbox_toposort.clauses 𝓤 H A mem run)
   witbox-toposort-one κs a g z z′ e e′ = agree 𝓤
+
+  pub witbox-check-order-one : OneAnswer 𝓤 witbox_check_order.ended (witbox_check_order.clauses 𝓤 H A mem run)
+  witbox-check-order-one κs a g z z′ e e′ = agree 𝓤
+
+  pub witbox-propose-one : OneOutcome 𝓤 witbox_propose.ended (λ κs. SortAnswer × List ℕ) (λ κs z e. (z, now (e .1 .1 .0))) (witbox_propose.clauses 𝓤 H A mem run)
+  witbox-propose-one κs a g z z′ e e′ = agree 𝓤

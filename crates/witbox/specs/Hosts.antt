@@ -3,6 +3,7 @@ use Prim.Native.Nat.{ℕ, _-_}
 use mathlib.Core.List.{List}
 use Rattle.answers.specs.declared.Span.{Span}
 use Rattle.answers.specs.declared.Refusal.{Refusal}
+use Rattle.answers.specs.declared.Verdict.{Verdict}
 use Rattle.answers.specs.Refusals.{told, toldOf}
 use Rattle.tokens.specs.Kinds.{kindOf}
 use Rattle.strings.specs.declared.Decoded.{Decoded}
@@ -17,6 +18,7 @@ use Rattle.witbox.specs.declared.StepAnswer.{StepAnswer}
 use Rattle.witbox.specs.declared.CountAnswer.{CountAnswer}
 use Rattle.witbox.specs.declared.NameAnswer.{NameAnswer}
 use Rattle.witbox.specs.declared.SortAnswer.{SortAnswer}
+use Rattle.witbox.specs.declared.VerdictAnswer.{VerdictAnswer}
 
 -- A span by its two positions.
 abbrev pub span : ℕ → ℕ → Span
@@ -77,3 +79,7 @@ sortOf s = record { number = toldOf (s .verdict) .number; position = toldOf (s .
 
 unfoldable pub sortNumbers : Sorted × List ℕ → SortAnswer × List ℕ
 sortNumbers a = (sortOf (a .0), a .1)
+
+-- A verdict alone.
+unfoldable pub verdictNumbers : Verdict → VerdictAnswer
+verdictNumbers v = record { number = toldOf v .number; position = toldOf v .position; detail = toldOf v .detail }

@@ -4,7 +4,9 @@ use crate::NameAnswer;
 use crate::OpenAnswer;
 use crate::SortAnswer;
 use crate::StepAnswer;
+use crate::VerdictAnswer;
 use answers::Refusal;
+use answers::Verdict;
 use clerk::Sorted;
 use listing::Listed;
 use names::Named;
@@ -13,7 +15,7 @@ use steps::Opened;
 use steps::Step;
 use strings::Decoded;
 ghost use mathlib.Core.Path.{_≡_};
-ghost use Rattle.witbox.specs.Hosts.{openNumbers, noToken, refusedStep, stepOf, stepNumbers, counted, refusedCount, countOf, valueOf, nameNumbers, sortOf};
+ghost use Rattle.witbox.specs.Hosts.{openNumbers, noToken, refusedStep, stepOf, stepNumbers, counted, refusedCount, countOf, valueOf, nameNumbers, sortOf, verdictNumbers};
 ghost use Rattle.witbox.specs.inner.Forward.{Forward};
 
 pub(crate) fn open_answer(opened: Opened) -> OpenAnswer
@@ -170,5 +172,16 @@ pub(crate) fn sort_answer(sorted: Sorted) -> SortAnswer
         position: told.position,
         detail: told.detail,
         settled,
+    }
+}
+
+pub(crate) fn verdict_answer(verdict: Verdict) -> VerdictAnswer
+    ensures { λ r. ⌜ r ≡ verdictNumbers verdict ⌝ }
+{
+    let told = verdict.numbers();
+    VerdictAnswer {
+        number: told.number,
+        position: told.position,
+        detail: told.detail,
     }
 }

@@ -15,7 +15,8 @@ ghost use Rattle.steps.specs.Steps.{opened, nextRawAt, nextAt, eatAt, expectAt}
 ghost use Rattle.listing.specs.declared.Listing.the-variants.{Raw, Filtered};
 ghost use Rattle.listing.specs.Listings.{listed};
 ghost use Rattle.clerk.specs.Sorted.{sorted};
-ghost use Rattle.witbox.specs.Hosts.{span, openNumbers, stepNumbers, countNumbers, valueNumbers, nameNumbers, sortNumbers};
+ghost use Rattle.planner.specs.Proposed.{checkedOrder, proposed};
+ghost use Rattle.witbox.specs.Hosts.{span, openNumbers, stepNumbers, countNumbers, valueNumbers, nameNumbers, sortNumbers, verdictNumbers};
 
 // struct witbox_opened
 #[repr(C)]
@@ -63,6 +64,14 @@ pub struct SortAnswer {
     pub position: u32,
     pub detail: u32,
     pub settled: u32,
+}
+
+// struct witbox_verdict
+#[repr(C)]
+pub struct VerdictAnswer {
+    pub number: u32,
+    pub position: u32,
+    pub detail: u32,
 }
 
 #[no_mangle]
@@ -171,4 +180,18 @@ pub extern "C" fn witbox_toposort(sheet: &[u32], names: &[u8], order: &mut [u32]
     ensures { λ r. ⌜ (r, now (order .exit)) ≡ sortNumbers (sorted (now (sheet .entry)) (now (names .entry)) (now (order .entry))) ⌝ }
 {
     answering::sort_answer(clerk::toposort(sheet, names, order))
+}
+
+#[no_mangle]
+pub extern "C" fn witbox_check_order(sheet: &[u32], names: &[u8], list: &[u32]) -> VerdictAnswer
+    ensures { λ r. ⌜ r ≡ verdictNumbers (checkedOrder (now (sheet .entry)) (now (names .entry)) (now (list .entry))) ⌝ }
+{
+    answering::verdict_answer(planner::check_order(sheet, names, list))
+}
+
+#[no_mangle]
+pub extern "C" fn witbox_propose(sheet: &[u32], names: &[u8], list: &mut [u32]) -> SortAnswer
+    ensures { λ r. ⌜ (r, now (list .exit)) ≡ sortNumbers (proposed (now (sheet .entry)) (now (names .entry)) (now (list .entry))) ⌝ }
+{
+    answering::sort_answer(planner::propose(sheet, names, list))
 }

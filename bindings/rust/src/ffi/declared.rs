@@ -27,6 +27,14 @@ pub struct Counted {
     pub count: u32,
 }
 
+/// `struct witbox_verdict`
+#[repr(C)]
+pub struct Verdict {
+    pub number: u32,
+    pub position: u32,
+    pub detail: u32,
+}
+
 /// `struct witbox_named`
 #[repr(C)]
 pub struct Named {
@@ -103,6 +111,22 @@ extern "C" {
         names: *const u8,
         names_length: usize,
         order: *mut u32,
+        room: usize,
+    ) -> Counted;
+    pub fn witbox_check_order(
+        sheet: *const u32,
+        words: usize,
+        names: *const u8,
+        names_length: usize,
+        list: *const u32,
+        length: usize,
+    ) -> Verdict;
+    pub fn witbox_propose(
+        sheet: *const u32,
+        words: usize,
+        names: *const u8,
+        names_length: usize,
+        list: *mut u32,
         room: usize,
     ) -> Counted;
 }
