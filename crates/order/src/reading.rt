@@ -1,4 +1,4 @@
-//! The list, read word by word into the rows of a sheet. Names stay in the text, which the sheet takes as its names.
+//! The list, read word by word into the rows of a sheet; or an order, which is names alone. Names stay in the text, which the sheet takes as its names.
 use crate::sheet;
 use crate::words::Mark;
 use crate::words::word_at;
@@ -10,8 +10,12 @@ const NO_COLON: u32 = 2;
 
 const SECOND_COLON: u32 = 3;
 
-// Where the reading stands: how many items and dependencies there were, the line, whether it has had its name and its colon, and its fault.
+const COLON_IN_ORDER: u32 = 4;
+
+// Where the reading stands: how many items and dependencies there were, the line, whether it has had its name and its colon, and its fault. In an
+// order each name is an item, so a line never has had its name.
 pub struct Listed {
+    pub is_order: bool,
     pub items: u32,
     pub needs: u32,
     pub line: u32,
@@ -41,6 +45,10 @@ fn with_newline(listed: Listed) -> Listed {
 
 fn with_colon(listed: Listed) -> Listed {
     let mut more = listed;
+    if listed.is_order {
+        more.fault = COLON_IN_ORDER;
+        return more;
+    }
     if !listed.has_name {
         more.fault = NO_NAME;
         return more;
@@ -60,7 +68,7 @@ fn with_name(listed: Listed, at: u32, end: u32, items: &mut [u32], needs: &mut [
     if !listed.has_name {
         sheet::put_row(items, listed.items, at, length, listed.needs, 0);
         more.items = more_by_one(listed.items);
-        more.has_name = true;
+        more.has_name = !listed.is_order;
         return more;
     }
     if !listed.has_colon {
@@ -96,8 +104,9 @@ fn is_past(text: &[u8], at: u32) -> bool {
 
 // The rows of items are their sheet's; those of what is needed go to a table of their own, since only the end of the list tells where they belong.
 // Each word passes at least a byte, and the last is the newline behind the text, so no run uses up the turns.
-pub fn read(text: &[u8], items: &mut [u32], needs: &mut [u32]) -> Listed {
+pub fn read(text: &[u8], is_order: bool, items: &mut [u32], needs: &mut [u32]) -> Listed {
     let mut listed = Listed {
+        is_order,
         items: 0,
         needs: 0,
         line: 1,

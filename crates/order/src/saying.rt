@@ -3,7 +3,7 @@ use crate::sheet::word;
 use answers::Numbers;
 use files::Out;
 
-fn file(name: &[u8]) -> Out {
+pub fn file(name: &[u8]) -> Out {
     files::output().text(name).byte(b':')
 }
 
@@ -17,6 +17,7 @@ pub fn print_fault(name: &[u8], line: u32, fault: u32) {
             a colon with no name before it\n\
             a name with no colon behind it\n\
             a second colon\n\
+            a colon, where an order has names alone\n\
             ",
             fault,
         )
@@ -53,13 +54,15 @@ fn line_of(text: &[u8], at: usize) -> usize {
     files::line_behind(&text[0..at])
 }
 
+// The file, and the line of row r.
+pub fn line_at(name: &[u8], text: &[u8], sheet: &[u32], r: u32) -> Out {
+    let line = line_of(text, word(sheet, r, 0) as usize);
+    file(name).number(line as u64).text(b": ")
+}
+
 // The file, the line of row r, and what is wrong.
 fn placed(name: &[u8], text: &[u8], sheet: &[u32], r: u32, number: u32) -> Out {
-    let line = line_of(text, word(sheet, r, 0) as usize);
-    file(name).number(line as u64)
-        .text(b": ")
-        .message(number)
-        .text(b": ")
+    line_at(name, text, sheet, r).message(number).text(b": ")
 }
 
 // 28: an item whose name an earlier one has.

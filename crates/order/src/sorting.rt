@@ -1,12 +1,13 @@
-//! From the list to the order that the clerk gives, or to what is wrong.
-use crate::reading;
+//! The order that the clerk gives, or that our proposer offers, or what is wrong.
+use crate::building;
+use crate::options::Task;
 use crate::saying;
-use crate::sheet;
 use answers::Refusal;
 use answers::Verdict;
+use clerk::Sorted;
 
-// The items by their names, and how many dependencies the order settles.
-fn print_order(text: &[u8], sheet: &[u32], order: &[u32], items: u32, settled: u32) {
+// The items by their names.
+fn print_order(text: &[u8], sheet: &[u32], order: &[u32], items: u32) {
     let mut out = files::output();
     let mut i = 0;
     while i < order.len() {
@@ -16,10 +17,21 @@ fn print_order(text: &[u8], sheet: &[u32], order: &[u32], items: u32, settled: u
         out = saying::name_of(out, text, sheet, order[i]).line();
         i += 1;
     }
-    out.text(b"settled ").number(settled as u64).line().flush();
+    out.flush();
 }
 
-fn print_refusal(
+// How many dependencies the order settles; an order that is handed over is names alone.
+fn print_settled(task: Task, settled: u32) {
+    if let Task::Sort = task {
+        files::output()
+            .text(b"settled ")
+            .number(settled as u64)
+            .line()
+            .flush();
+    }
+}
+
+pub fn print_refusal(
     name: &[u8],
     text: &[u8],
     sheet: &[u32],
@@ -37,51 +49,36 @@ fn print_refusal(
     }
 }
 
-fn print_sorted(name: &[u8], text: &[u8], sheet: &[u32], items: u32) {
+fn sorted_by(task: Task, sheet: &[u32], names: &[u8], order: &mut [u32]) -> Sorted {
+    if let Task::Propose = task {
+        return planner::propose(sheet, names, order);
+    }
+    clerk::toposort(sheet, names, order)
+}
+
+fn print_sorted(name: &[u8], text: &[u8], sheet: &[u32], items: u32, task: Task) {
     let mut order = [0u32; 256];
-    let sorted = clerk::toposort(sheet, text, &mut order);
+    let sorted = sorted_by(task, sheet, text, &mut order);
     let settled = sorted.settled;
     let verdict = sorted.verdict;
     match verdict {
         Verdict::Refused(refusal) => print_refusal(name, text, sheet, items, refusal, settled),
-        Verdict::Accepted => print_order(text, sheet, &order, items, settled),
+        Verdict::Accepted => {
+            print_order(text, sheet, &order, items);
+            print_settled(task, settled);
+        }
     }
 }
 
-// The sheet is the first words, which are there.
-fn print_first(name: &[u8], text: &[u8], words: &[u32], count: usize, items: u32) {
+pub fn print(name: &[u8], text: &[u8], task: Task) {
+    let mut words = [0u32; 9221];
+    let built = building::build(name, text, &mut words);
+    if !built.ok {
+        return;
+    }
+    let count = built.words;
     if words.len() < count {
         return;
     }
-    print_sorted(name, text, &words[0..count], items);
-}
-
-// The tables have room for 256 items and 2,048 dependencies, and a header each.
-pub fn print(name: &[u8], text: &[u8]) {
-    let mut words = [0u32; 9221];
-    let mut table = [0u32; 8197];
-    let listed = reading::read(text, &mut words, &mut table);
-    if listed.fault > 0 {
-        saying::print_fault(name, listed.line, listed.fault);
-        return;
-    }
-    let items = listed.items;
-    let needs = listed.needs;
-    if items > 256 {
-        saying::print_plain(name, Refusal::TooManyItems.numbers());
-        return;
-    }
-    if needs > 2048 {
-        saying::print_plain(name, Refusal::TooManyItems.numbers());
-        return;
-    }
-    sheet::put_header(&mut words, items, needs);
-    sheet::append(&mut words, items, needs, &table);
-    print_first(
-        name,
-        text,
-        &words,
-        sheet::words(items, needs) as usize,
-        items,
-    );
+    print_sorted(name, text, &words[0..count], built.items, task);
 }

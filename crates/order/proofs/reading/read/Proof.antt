@@ -5,10 +5,10 @@ use Rattle.order.proofs.reading.read.Statement.{statement}
 use Rattle.order.proofs.reading.read.Tie as tie
 
 abbrev Inv-loop : tie.InvT-loop
-Inv-loop text items₀ needs₀ listed₀ at₀ turns₀ items needs listed at turns = (length items ≡ length items₀) × (length needs ≡ length needs₀)
+Inv-loop text is_order items₀ needs₀ listed₀ at₀ turns₀ items needs listed at turns = (length items ≡ length items₀) × (length needs ≡ length needs₀)
 
 abbrev μ-loop : tie.MeasureT-loop
-μ-loop text items₀ needs₀ listed₀ at₀ turns₀ items needs listed at turns = turns
+μ-loop text is_order items₀ needs₀ listed₀ at₀ turns₀ items needs listed at turns = turns
 
 loop-holds : tie.Need-loop-holds Inv-loop μ-loop
 loop-holds c = search needs

@@ -5,10 +5,10 @@ use Rattle.order.proofs.sorting.print_order.Statement.{statement}
 use Rattle.order.proofs.sorting.print_order.Tie as tie
 
 abbrev Inv-loop : tie.InvT-loop
-Inv-loop text sheet order items settled out₀ i₀ t8 out i = Unit {0}
+Inv-loop text sheet order items out₀ i₀ out i = Unit {0}
 
 abbrev μ-loop : tie.MeasureT-loop
-μ-loop text sheet order items settled out₀ i₀ t8 out i = length order - i
+μ-loop text sheet order items out₀ i₀ out i = length order - i
 
 output-requires : tie.Need-output-requires Inv-loop μ-loop
 output-requires c κs = search needs
@@ -37,18 +37,6 @@ loop-less c = search needs
 loop-again : tie.Need-loop-again Inv-loop μ-loop
 loop-again c = search needs
 
-slice-aggregate-text : tie.Need-slice-aggregate-text Inv-loop μ-loop
-slice-aggregate-text c = search needs
-
-text-requires : tie.Need-text-requires Inv-loop μ-loop
-text-requires c κs = search needs
-
-number-requires : tie.Need-number-requires Inv-loop μ-loop
-number-requires c κs = search needs
-
-line-requires-2 : tie.Need-line-requires-2 Inv-loop μ-loop
-line-requires-2 c κs = search needs
-
 flush-requires : tie.Need-flush-requires Inv-loop μ-loop
 flush-requires c κs = search needs
 
@@ -70,9 +58,5 @@ print-order-spec =
     add-i
     loop-less
     loop-again
-    slice-aggregate-text
-    text-requires
-    number-requires
-    line-requires-2
     flush-requires
     returns)
