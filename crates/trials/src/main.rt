@@ -1,7 +1,9 @@
 //! Runs the clerk over every sheet of up to three items and five dependencies, in every listing, and compares with a second way to find the answer:
 //! the first of the items' permutations, in the order of a dictionary, that has each dependency before what needs it; and chains followed by hand
-//! where there is none. Then the sheets at the edges of the caps. `sheet.rt` makes the sheets, `second.rt` is the second way.
+//! where there is none. For each sheet it checks every list of up to three words as a load order, and again compares with a second way. Then the
+//! sheets at the edges of the caps. `sheet.rt` makes the sheets, `second.rt` is the second way, `lists.rt` has the lists.
 mod caps;
+mod lists;
 mod second;
 mod sheet;
 
@@ -9,15 +11,17 @@ use answers::Verdict;
 use clerk::Sorted;
 use libc::STDOUT_FILENO;
 
-// How many sheets were tried, how many got an order, how many 30, and how many answers differ.
+// How many sheets were tried, how many got an order, how many 30; how many lists were checked and how many accepted; and how many answers differ.
 pub struct Tally {
     pub sheets: u32,
     pub orders: u32,
     pub cycles: u32,
+    pub lists: u32,
+    pub accepted: u32,
     pub differ: u32,
 }
 
-fn more(n: u32) -> u32 {
+pub fn more(n: u32) -> u32 {
     std::num::wrapping_add_u32(n, 1)
 }
 
@@ -55,7 +59,7 @@ fn with_sheet(from: Tally, n: u32, e: u32, g: u32) -> Tally {
     } else {
         t.cycles = more(t.cycles);
     }
-    t
+    lists::with_lists(t, &words[0..size], n, e, g)
 }
 
 // Every listing of e dependencies between n items.
@@ -98,6 +102,8 @@ fn main() {
         sheets: 0,
         orders: 0,
         cycles: 0,
+        lists: 0,
+        accepted: 0,
         differ: 0,
     };
     for n in 0u32..4 {
@@ -106,6 +112,8 @@ fn main() {
     print_number(b"sheets ", t.sheets);
     print_number(b", orders ", t.orders);
     print_number(b", cycles ", t.cycles);
+    print_number(b", lists ", t.lists);
+    print_number(b", accepted ", t.accepted);
     print_number(b", answers that differ ", t.differ);
     io::write_all(STDOUT_FILENO, b"\n");
     caps::print_all();

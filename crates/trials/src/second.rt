@@ -15,7 +15,7 @@ fn permutation(p: u32) -> u32 {
 }
 
 // The item at place j.
-fn at_place(p: u32, j: u32) -> u32 {
+pub fn at_place(p: u32, j: u32) -> u32 {
     match j {
         0 => permutation(p) / 100,
         1 => permutation(p) / 10 % 10,
@@ -35,7 +35,7 @@ fn place_of(p: u32, i: u32) -> u32 {
 }
 
 // Items that are not there stand in their own places, and each dependency stands before what needs it.
-fn is_order(n: u32, e: u32, g: u32, p: u32) -> bool {
+pub fn is_order(n: u32, e: u32, g: u32, p: u32) -> bool {
     for i in n..3 {
         if at_place(p, i) != i {
             return false;

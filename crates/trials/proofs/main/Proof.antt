@@ -4,10 +4,10 @@ use Rattle.trials.proofs.main.Statement.{statement}
 use Rattle.trials.proofs.main.Tie as tie
 
 abbrev Inv-loop : tie.InvT-loop
-Inv-loop t₀ n₀ t3 t4 t5 t6 t7 t n = 0 ≤ n
+Inv-loop t₀ n₀ t3 t4 t5 t6 t7 t8 t9 t n = 0 ≤ n
 
 abbrev μ-loop : tie.MeasureT-loop
-μ-loop t₀ n₀ t3 t4 t5 t6 t7 t n = 4 - n
+μ-loop t₀ n₀ t3 t4 t5 t6 t7 t8 t9 t n = 4 - n
 
 loop-holds : tie.Need-loop-holds Inv-loop μ-loop
 loop-holds c = search needs
@@ -48,6 +48,18 @@ slice-aggregate-print-number-4 c = search needs
 print-number-requires-4 : tie.Need-print-number-requires-4 Inv-loop μ-loop
 print-number-requires-4 c κs = search needs
 
+slice-aggregate-print-number-5 : tie.Need-slice-aggregate-print-number-5 Inv-loop μ-loop
+slice-aggregate-print-number-5 c = search needs
+
+print-number-requires-5 : tie.Need-print-number-requires-5 Inv-loop μ-loop
+print-number-requires-5 c κs = search needs
+
+slice-aggregate-print-number-6 : tie.Need-slice-aggregate-print-number-6 Inv-loop μ-loop
+slice-aggregate-print-number-6 c = search needs
+
+print-number-requires-6 : tie.Need-print-number-requires-6 Inv-loop μ-loop
+print-number-requires-6 c κs = search needs
+
 slice-aggregate-write-all : tie.Need-slice-aggregate-write-all Inv-loop μ-loop
 slice-aggregate-write-all c = search needs
 
@@ -79,6 +91,10 @@ main-spec =
     print-number-requires-3
     slice-aggregate-print-number-4
     print-number-requires-4
+    slice-aggregate-print-number-5
+    print-number-requires-5
+    slice-aggregate-print-number-6
+    print-number-requires-6
     slice-aggregate-write-all
     write-all-requires
     print-all-requires
