@@ -14,10 +14,12 @@ pub enum Ask {
     Id,
     ExplicitId,
     Sort,
+    CheckOrder,
+    Propose,
 }
 
 /// Every entry point, in the header's order.
-pub const ASKS: [Ask; 11] = [
+pub const ASKS: [Ask; 13] = [
     Ask::Open,
     Ask::NextRaw,
     Ask::Next,
@@ -29,6 +31,8 @@ pub const ASKS: [Ask; 11] = [
     Ask::Id,
     Ask::ExplicitId,
     Ask::Sort,
+    Ask::CheckOrder,
+    Ask::Propose,
 ];
 
 impl Ask {
@@ -46,6 +50,8 @@ impl Ask {
             Ask::Id => "id",
             Ask::ExplicitId => "explicit",
             Ask::Sort => "sort",
+            Ask::CheckOrder => "check_order",
+            Ask::Propose => "propose",
         }
     }
 
@@ -64,9 +70,19 @@ impl Ask {
         matches!(self, Ask::String | Ask::Id | Ask::ExplicitId)
     }
 
-    /// Whether it is lent memory: a table, a buffer or an order.
+    /// Whether it takes a sheet.
+    pub fn sheets(self) -> bool {
+        matches!(self, Ask::Sort | Ask::CheckOrder | Ask::Propose)
+    }
+
+    /// Whether it is lent words: a table or an order.
+    pub fn lends_words(self) -> bool {
+        matches!(self, Ask::ListRaw | Ask::List | Ask::Sort | Ask::Propose)
+    }
+
+    /// Whether it is lent memory: words or a buffer.
     pub fn lends(self) -> bool {
-        matches!(self, Ask::ListRaw | Ask::List | Ask::String | Ask::Sort)
+        self.lends_words() || self == Ask::String
     }
 }
 
@@ -86,6 +102,8 @@ pub struct Call<'a> {
     pub room: usize,
     /// A sheet's words.
     pub sheet: &'a [u32],
+    /// The words of a proposed order.
+    pub list: &'a [u32],
     /// The cursor before a step.
     pub from: u32,
 }
@@ -101,6 +119,7 @@ impl<'a> Call<'a> {
             b: 0,
             room: 0,
             sheet: &[],
+            list: &[],
             from: 0,
         }
     }
@@ -148,6 +167,24 @@ impl<'a> Call<'a> {
             ..Call::new(Ask::Sort, names, 0)
         }
     }
+
+    /// A sheet for which an order of so many words is to be proposed.
+    pub fn propose(sheet: &'a [u32], names: &'a [u8], room: usize) -> Call<'a> {
+        Call {
+            sheet,
+            room,
+            ..Call::new(Ask::Propose, names, 0)
+        }
+    }
+
+    /// A proposed order of a sheet, to be checked.
+    pub fn check_order(sheet: &'a [u32], names: &'a [u8], list: &'a [u32]) -> Call<'a> {
+        Call {
+            sheet,
+            list,
+            ..Call::new(Ask::CheckOrder, names, 0)
+        }
+    }
 }
 
 /// A call that holds what it is given.
@@ -160,6 +197,7 @@ pub struct OwnedCall {
     pub b: u32,
     pub room: usize,
     pub sheet: Vec<u32>,
+    pub list: Vec<u32>,
     pub from: u32,
 }
 
@@ -174,6 +212,7 @@ impl OwnedCall {
             b: call.b,
             room: call.room,
             sheet: call.sheet.to_vec(),
+            list: call.list.to_vec(),
             from: call.from,
         }
     }
@@ -188,6 +227,7 @@ impl OwnedCall {
             b: self.b,
             room: self.room,
             sheet: &self.sheet,
+            list: &self.list,
             from: self.from,
         }
     }

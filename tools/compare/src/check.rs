@@ -65,7 +65,7 @@ pub struct Counts {
     /// How many of them the Rust judged.
     pub by_rust: u64,
     /// How often each number was the right one.
-    pub numbers: [u64; 31],
+    pub numbers: BTreeMap<u32, u64>,
     /// How many differed.
     pub differing: u64,
 }
@@ -104,13 +104,8 @@ impl Checker {
         self.counts.calls += 1;
         self.counts.by_rust += judged.is_some() as u64;
         let expected = judged.as_ref().unwrap_or(&paper);
-        if let Some(count) = self
-            .counts
-            .numbers
-            .get_mut(expected.numbers.number as usize)
-        {
-            *count += 1;
-        }
+        let met = self.counts.numbers.entry(expected.numbers.number);
+        *met.or_default() += 1;
         self.lent.fill(call);
         let numbers = self.side.run(call, &mut self.lent);
         let mut fault = None;
@@ -158,8 +153,8 @@ impl Checker {
         mine.calls += theirs.calls;
         mine.by_rust += theirs.by_rust;
         mine.differing += theirs.differing;
-        for (mine, theirs) in mine.numbers.iter_mut().zip(theirs.numbers) {
-            *mine += theirs;
+        for (number, theirs) in &theirs.numbers {
+            *mine.numbers.entry(*number).or_default() += theirs;
         }
         for (key, theirs) in other.differences {
             match self.differences.get_mut(&key) {
@@ -227,7 +222,7 @@ impl Checker {
             "{} calls compared: {} judged by the Rust, {paper} by the second reading of the paper",
             counts.calls, counts.by_rust
         );
-        let met = counts.numbers.iter().enumerate().filter(|(_, n)| **n > 0);
+        let met = counts.numbers.iter();
         let met: Vec<_> = met.map(|(number, n)| format!("{number}:{n}")).collect();
         println!("answers by number: {}", met.join(" "));
         println!("differences: {}", counts.differing);

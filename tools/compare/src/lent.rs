@@ -21,7 +21,7 @@ impl Lent {
         self.words.clear();
         self.bytes.clear();
         match call.ask {
-            Ask::ListRaw | Ask::List | Ask::Sort => {
+            ask if ask.lends_words() => {
                 let all = 0..call.room + 2 * STRIP;
                 self.words.extend(all.map(|i| word(seed, i)));
             }

@@ -10,7 +10,7 @@ use declared::*;
 /// Makes a call of the library over lent memory.
 pub fn run(call: &Call, lent: &mut Lent) -> Numbers {
     match call.ask {
-        Ask::ListRaw | Ask::List | Ask::Sort => run_on(call, lent.words(), &mut []),
+        ask if ask.lends_words() => run_on(call, lent.words(), &mut []),
         Ask::String => run_on(call, &mut [], lent.bytes()),
         _ => run_on(call, &mut [], &mut []),
     }
@@ -85,6 +85,30 @@ pub fn run_on(call: &Call, words: &mut [u32], bytes: &mut [u8]) -> Numbers {
                 words.as_mut_ptr(),
                 words.len(),
             )),
+            Ask::Propose => counted(witbox_propose(
+                call.sheet.as_ptr(),
+                call.sheet.len(),
+                text,
+                length,
+                words.as_mut_ptr(),
+                words.len(),
+            )),
+            Ask::CheckOrder => {
+                let r = witbox_check_order(
+                    call.sheet.as_ptr(),
+                    call.sheet.len(),
+                    text,
+                    length,
+                    call.list.as_ptr(),
+                    call.list.len(),
+                );
+                Numbers {
+                    number: r.number,
+                    position: r.position,
+                    detail: r.detail,
+                    ..Numbers::default()
+                }
+            }
         }
     }
 }

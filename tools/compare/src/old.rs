@@ -17,8 +17,11 @@ pub fn judge(call: &Call) -> Option<Outcome> {
     if call.bytes.len() > model::TEXT_CAP {
         return None;
     }
-    if call.ask == Ask::Sort {
-        return catch(|| sort(call));
+    match call.ask {
+        Ask::Sort | Ask::Propose => return catch(|| sort(call)),
+        // the Rust checks no proposed order
+        Ask::CheckOrder => return None,
+        _ => {}
     }
     if call.offset as u64 + call.bytes.len() as u64 > model::MAP_CAP {
         return None;

@@ -1,6 +1,6 @@
 //! Makes a call smaller as long as it still differs.
 
-use crate::call::{Ask, Call, OwnedCall};
+use crate::call::{Call, OwnedCall};
 
 /// How many trials a reduction may take.
 const TRIALS: usize = 20_000;
@@ -79,7 +79,7 @@ fn without(call: &OwnedCall, at: usize, size: usize) -> OwnedCall {
         trial.a = shift(call.a);
         trial.b = shift(call.b);
     }
-    if call.ask == Ask::Sort && well_shaped(call) {
+    if call.ask.sheets() && well_shaped(call) {
         for row in trial.sheet[5..].chunks_mut(4) {
             let behind = moved(row[0] + row[1]);
             row[0] = moved(row[0]);
@@ -119,9 +119,14 @@ fn plainer(call: &OwnedCall) -> Vec<OwnedCall> {
             trials.push(trial);
         }
     }
-    if call.ask == Ask::Sort {
+    if call.ask.sheets() {
         trials.extend(fewer_dependencies(call));
     }
+    trials.extend((0..call.list.len()).map(|gone| {
+        let mut trial = call.clone();
+        trial.list.remove(gone);
+        trial
+    }));
     trials
 }
 

@@ -54,8 +54,11 @@ fn readable(bytes: &[u8]) -> String {
 pub fn call(call: &Call) -> String {
     let mut out = String::new();
     writeln!(out, "  call     {}", call.ask.word()).unwrap();
-    if call.ask == Ask::Sort {
+    if call.ask.sheets() {
         writeln!(out, "  sheet    {}", words(call.sheet)).unwrap();
+        if call.ask == Ask::CheckOrder {
+            writeln!(out, "  list     {}", words(call.list)).unwrap();
+        }
         writeln!(out, "  names    {}", readable(call.bytes)).unwrap();
         writeln!(out, "  hex      {}", hex(call.bytes)).unwrap();
     } else {
@@ -104,7 +107,8 @@ pub fn answer(ask: Ask, n: &Numbers, written_words: &[u32], written_bytes: &[u8]
         Ask::ListRaw | Ask::List => write!(out, ", {} rows", n.x),
         Ask::String => write!(out, ", {} bytes", n.x),
         Ask::Id | Ask::ExplicitId => write!(out, ", place {}, length {}", n.x, n.y),
-        Ask::Sort => write!(out, ", settled {}", n.x),
+        Ask::Sort | Ask::Propose => write!(out, ", settled {}", n.x),
+        Ask::CheckOrder => Ok(()),
     }
     .unwrap();
     if !written_words.is_empty() {

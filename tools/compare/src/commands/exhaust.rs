@@ -1,12 +1,12 @@
 //! `exhaust [LENGTH]`: every text up to a length over a telling alphabet, at two offsets; every scalar; every short byte sequence;
-//! every small sheet.
+//! every small sheet, and every short list proposed as its order.
 
 use std::sync::atomic::{AtomicUsize, Ordering};
 use std::sync::Mutex;
 
 use crate::call::{Ask, Call};
 use crate::check::Checker;
-use crate::generate::sheets;
+use crate::generate::{orders, sheets};
 use crate::progress::Progress;
 use crate::side::Side;
 use crate::walk;
@@ -60,6 +60,8 @@ pub fn exhaust(side: Side, length: usize, jobs: usize) -> bool {
     let items = if length >= 4 { 3 } else { 2 };
     println!("every sheet of up to {items} items and 4 dependencies, and its first words damaged");
     every_sheet(&mut total, items);
+    println!("every list of up to a word more than items for each of them, as its order");
+    every_order(&mut total, items);
     let none = total.report();
     total.summary();
     none
@@ -202,5 +204,18 @@ fn every_sheet(total: &mut Checker, items: usize) {
         }
         total.check(&Call::sort(&sheet[..sheet.len() - 1], names, n));
         total.check(&Call::sort(&[sheet, &[0]].concat(), names, n));
+    });
+}
+
+/// Every small sheet, every short list as its order, and the order that is proposed.
+fn every_order(total: &mut Checker, items: usize) {
+    sheets::every(items, 4, |sheet, names| {
+        let n = sheet[0];
+        orders::every(n, n as usize + 1, |list| {
+            total.check(&Call::check_order(sheet, names, list));
+        });
+        for room in [n as usize, n as usize + 1, (n as usize).saturating_sub(1)] {
+            total.check(&Call::propose(sheet, names, room));
+        }
     });
 }

@@ -1,10 +1,11 @@
-//! `fuzz SECONDS SEED`: texts and sheets by chance, every entry point, spans and cursors anywhere, rooms around the need.
+//! `fuzz SECONDS SEED`: texts, sheets and proposed orders by chance, every entry point, spans and cursors anywhere, rooms around the
+//! need.
 
 use std::time::{Duration, Instant};
 
 use crate::call::{Ask, Call};
 use crate::check::Checker;
-use crate::generate::{sheets, texts};
+use crate::generate::{orders, sheets, texts};
 use crate::progress::Progress;
 use crate::rng::Rng;
 use crate::side::Side;
@@ -168,5 +169,19 @@ pub fn sheet(checker: &mut Checker, rng: &mut Rng) {
         rng.below(n + 2),
     ] {
         checker.check(&Call::sort(&sheet.words, &sheet.names, room));
+    }
+    order(checker, rng, &sheet);
+}
+
+/// Orders of a sheet: the one that is proposed for it, which is then checked, and others by chance, good and damaged.
+fn order(checker: &mut Checker, rng: &mut Rng, sheet: &sheets::Sheet) {
+    let (words, names) = (&sheet.words, &sheet.names);
+    let n = words.first().map_or(0, |n| *n as usize).min(260);
+    let room = n + rng.below(3);
+    let offered = checker.check(&Call::propose(words, names, room));
+    checker.check(&Call::check_order(words, names, &offered.words));
+    for _ in 0..4 {
+        let list = orders::by_chance(rng, words, names);
+        checker.check(&Call::check_order(words, names, &list));
     }
 }

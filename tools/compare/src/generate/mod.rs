@@ -1,5 +1,6 @@
-//! Texts and sheets to compare over.
+//! Texts, sheets and proposed orders to compare over.
 
+pub mod orders;
 pub mod sheets;
 pub mod texts;
 pub mod wit;

@@ -6,6 +6,7 @@
 mod characters;
 mod kinds;
 mod names;
+mod orders;
 mod sheets;
 mod steps;
 mod strings;
@@ -71,6 +72,11 @@ fn refused(refusal: Refusal) -> Numbers {
     }
 }
 
+/// How many items a sheet has, and each dependency as (item, target), where it passes the checks up to 29.
+pub fn edges(words: &[u32], names: &[u8]) -> Option<(usize, Vec<(usize, usize)>)> {
+    sheets::resolved(words, names).ok()
+}
+
 /// What 01 says of a call.
 pub fn answer(call: &Call) -> Outcome {
     let text = Text {
@@ -88,6 +94,7 @@ pub fn answer(call: &Call) -> Outcome {
             let explicit = call.ask == Ask::ExplicitId;
             names::parse(&text, call.a, call.b, explicit).into()
         }
-        Ask::Sort => sheets::sort(call.sheet, call.bytes, call.room),
+        Ask::Sort | Ask::Propose => sheets::sort(call.sheet, call.bytes, call.room),
+        Ask::CheckOrder => orders::check(call.sheet, call.bytes, call.list),
     }
 }

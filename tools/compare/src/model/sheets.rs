@@ -52,7 +52,7 @@ fn sorted(words: &[u32], names: &[u8], room: usize) -> Result<(Vec<u32>, u32), (
 }
 
 /// How many items there are, and each dependency as (item, target); refusals up to 29.
-fn resolved(words: &[u32], names: &[u8]) -> Result<(usize, Vec<(usize, usize)>), Refusal> {
+pub fn resolved(words: &[u32], names: &[u8]) -> Result<(usize, Vec<(usize, usize)>), Refusal> {
     let sheet = shaped(words, names)?;
     let first = |name: &[u8]| sheet.items.iter().position(|i| *i == name);
     for (i, name) in sheet.items.iter().enumerate() {

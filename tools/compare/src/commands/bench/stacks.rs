@@ -68,7 +68,7 @@ fn calls() -> Vec<OwnedCall> {
     texts.push(vec![0xff]);
     let mut calls = Vec::new();
     for text in &texts {
-        for ask in ASKS.into_iter().filter(|a| *a != Ask::Sort) {
+        for ask in ASKS.into_iter().filter(|a| !a.sheets()) {
             let mut call = Call::new(ask, text, 5);
             if ask.spans() {
                 (call.a, call.b) = (5, 5 + text.len() as u32);
@@ -82,6 +82,17 @@ fn calls() -> Vec<OwnedCall> {
     for named in inputs::sheets() {
         let sheet = named.sheet;
         calls.push(OwnedCall::of(&Call::sort(&sheet.words, &sheet.names, 256)));
+        calls.push(OwnedCall::of(&Call::propose(
+            &sheet.words,
+            &sheet.names,
+            256,
+        )));
+        let list: Vec<u32> = (0..sheet.words[0]).rev().collect();
+        calls.push(OwnedCall::of(&Call::check_order(
+            &sheet.words,
+            &sheet.names,
+            &list,
+        )));
         let mut missing = sheet.clone();
         let last = missing.words.len() - 4;
         missing.words[last + 1] = 0;

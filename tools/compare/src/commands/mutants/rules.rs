@@ -13,7 +13,7 @@ pub struct Mutant {
 }
 
 /// Edits of `src/model`.
-pub const MUTANTS: [Mutant; 36] = [
+pub const MUTANTS: [Mutant; 39] = [
     Mutant {
         rule: "1 at 65,537 bytes, not before",
         file: "mod.rs",
@@ -229,5 +229,23 @@ pub const MUTANTS: [Mutant; 36] = [
         file: "sheets.rs",
         old: "        placed[item] = true;\n        order.push(item as u32);",
         new: "        for item in (item..count).filter(|&i| ready[i]) {\n            placed[item] = true;\n            order.push(item as u32);\n        }",
+    },
+    Mutant {
+        rule: "a proposed order has each dependency before what needs it",
+        file: "orders.rs",
+        old: "place(target) < place(item)",
+        new: "place(target) <= place(item)",
+    },
+    Mutant {
+        rule: "a word that repeats an item is at fault",
+        file: "orders.rs",
+        old: "earlier.contains(&word) || ",
+        new: "",
+    },
+    Mutant {
+        rule: "a short order without a fault gives its length",
+        file: "orders.rs",
+        old: "fault.unwrap_or(list.len())",
+        new: "fault.unwrap_or(count)",
     },
 ];

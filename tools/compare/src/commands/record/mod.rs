@@ -137,6 +137,10 @@ fn summary(recorder: &Recorder) {
         recorder.lines.len()
     );
     for ask in ASKS {
+        // no proposed order is recorded: the Rust has none, and `trials` goes through every small one
+        if matches!(ask, Ask::CheckOrder | Ask::Propose) {
+            continue;
+        }
         let numbers = recorder.met.range((ask, 0)..=(ask, 30));
         let numbers: Vec<_> = numbers.map(|((_, n), c)| format!("{n}:{c}")).collect();
         println!("  {:<9} {}", ask.word(), numbers.join(" "));
