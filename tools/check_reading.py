@@ -10,7 +10,7 @@ import sys
 
 TOP = pathlib.Path(__file__).resolve().parent.parent
 CRATES = TOP / "crates"
-MOST_LINES = 600  # of definitions that a reviewer reads
+MOST_LINES = 600 + 20  # of definitions that a reviewer reads: the base, and request §6
 
 
 def public(crate):
