@@ -17,7 +17,7 @@ pub struct Answer {
 const NO_KIND: u32 = 67;
 
 // An accepted call.
-pub fn accepted(x: u32, y: u32, z: u32, cursor: u32) -> Answer {
+pub(crate) fn accepted(x: u32, y: u32, z: u32, cursor: u32) -> Answer {
     Answer {
         number: 0,
         position: 0,
@@ -30,7 +30,7 @@ pub fn accepted(x: u32, y: u32, z: u32, cursor: u32) -> Answer {
 }
 
 // A verdict with one number beside it.
-pub fn judged(verdict: Verdict, x: u32, cursor: u32) -> Answer {
+pub(crate) fn judged(verdict: Verdict, x: u32, cursor: u32) -> Answer {
     let told = verdict.numbers();
     Answer {
         number: told.number,
@@ -43,12 +43,12 @@ pub fn judged(verdict: Verdict, x: u32, cursor: u32) -> Answer {
     }
 }
 
-pub fn refused(refusal: Refusal, cursor: u32) -> Answer {
+pub(crate) fn refused(refusal: Refusal, cursor: u32) -> Answer {
     judged(Verdict::Refused(refusal), 0, cursor)
 }
 
 // A step, with the place where it left the cursor.
-pub fn stepped(step: Step, cursor: u32) -> Answer {
+pub(crate) fn stepped(step: Step, cursor: u32) -> Answer {
     match step {
         Step::Token(kind, span) => accepted(kind.kind() as u32, span.start.0, span.end.0, cursor),
         Step::End => accepted(NO_KIND, 0, 0, cursor),
@@ -57,7 +57,7 @@ pub fn stepped(step: Step, cursor: u32) -> Answer {
     }
 }
 
-pub fn same_answer(a: Answer, b: Answer) -> bool {
+pub(crate) fn same_answer(a: Answer, b: Answer) -> bool {
     if a.number != b.number {
         return false;
     }

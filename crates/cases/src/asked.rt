@@ -51,7 +51,7 @@ fn is_judge(name: &[u8]) -> bool {
 }
 
 // Whether a line has the fields that every call has. Those of bytes and words are read when the call is made.
-pub fn is_case(line: &[u8]) -> bool {
+pub(crate) fn is_case(line: &[u8]) -> bool {
     if !is_whole(line) {
         return false;
     }
@@ -62,7 +62,7 @@ pub fn is_case(line: &[u8]) -> bool {
 }
 
 // The number that a field says, and 0 where it says none.
-pub fn number(line: &[u8], i: usize) -> u32 {
+pub(crate) fn number(line: &[u8], i: usize) -> u32 {
     match decimal(field(line, i)) {
         Number::Value(value) => value,
         Number::None => 0,
@@ -70,7 +70,7 @@ pub fn number(line: &[u8], i: usize) -> u32 {
 }
 
 // The answer that a line holds.
-pub fn recorded(line: &[u8]) -> Answer {
+pub(crate) fn recorded(line: &[u8]) -> Answer {
     Answer {
         number: number(line, NUMBER),
         position: number(line, 9),

@@ -14,7 +14,7 @@ use names::Named;
 use steps::Opened;
 use strings::Decoded;
 
-pub fn opened(text: &[u8], offset: u32) -> Answer {
+pub(crate) fn opened(text: &[u8], offset: u32) -> Answer {
     match steps::open(text, offset) {
         Opened::At(at) => accepted(0, 0, 0, at.0),
         Opened::Refused(refusal) => refused(refusal, 0),
@@ -27,19 +27,19 @@ fn went(found: Went) -> Answer {
     stepped(step, found.at)
 }
 
-pub fn next_raw(text: &[u8], offset: u32, from: u32) -> Answer {
+pub(crate) fn next_raw(text: &[u8], offset: u32, from: u32) -> Answer {
     went(lent::next_raw(text, offset, from))
 }
 
-pub fn next(text: &[u8], offset: u32, from: u32) -> Answer {
+pub(crate) fn next(text: &[u8], offset: u32, from: u32) -> Answer {
     went(lent::next(text, offset, from))
 }
 
-pub fn eaten(text: &[u8], offset: u32, from: u32, wanted: u32) -> Answer {
+pub(crate) fn eaten(text: &[u8], offset: u32, from: u32, wanted: u32) -> Answer {
     went(lent::eat(text, offset, from, wanted))
 }
 
-pub fn expected(text: &[u8], offset: u32, from: u32, wanted: u32) -> Answer {
+pub(crate) fn expected(text: &[u8], offset: u32, from: u32, wanted: u32) -> Answer {
     went(lent::expect(text, offset, from, wanted))
 }
 
@@ -65,29 +65,29 @@ fn named(found: Named) -> Answer {
     }
 }
 
-pub fn id(text: &[u8], offset: u32, start: u32, end: u32) -> Answer {
+pub(crate) fn id(text: &[u8], offset: u32, start: u32, end: u32) -> Answer {
     named(names::validate_id(text, offset, span(start, end)))
 }
 
-pub fn explicit_id(text: &[u8], offset: u32, start: u32, end: u32) -> Answer {
+pub(crate) fn explicit_id(text: &[u8], offset: u32, start: u32, end: u32) -> Answer {
     named(names::validate_explicit_id(text, offset, span(start, end)))
 }
 
-pub fn listed(text: &[u8], offset: u32, listing: Listing, table: &mut [u32]) -> Answer {
+pub(crate) fn listed(text: &[u8], offset: u32, listing: Listing, table: &mut [u32]) -> Answer {
     match listing::list(text, offset, listing, table) {
         Listed::Count(count) => accepted(count, 0, 0, 0),
         Listed::Refused(refusal) => refused(refusal, 0),
     }
 }
 
-pub fn decoded(text: &[u8], offset: u32, start: u32, end: u32, value: &mut [u8]) -> Answer {
+pub(crate) fn decoded(text: &[u8], offset: u32, start: u32, end: u32, value: &mut [u8]) -> Answer {
     match strings::string_literal(text, offset, span(start, end), value) {
         Decoded::Value(count) => accepted(count, 0, 0, 0),
         Decoded::Refused(refusal) => refused(refusal, 0),
     }
 }
 
-pub fn sorted(sheet: &[u32], names: &[u8], order: &mut [u32]) -> Answer {
+pub(crate) fn sorted(sheet: &[u32], names: &[u8], order: &mut [u32]) -> Answer {
     let found = clerk::toposort(sheet, names, order);
     let verdict = found.verdict;
     judged(verdict, found.settled, 0)

@@ -9,7 +9,7 @@ fn name_byte(i: usize) -> u8 {
     (i / 2 % 256) as u8
 }
 
-pub fn lay_names(names: &mut [u8]) {
+pub(crate) fn lay_names(names: &mut [u8]) {
     for i in 0..names.len() {
         names[i] = name_byte(i);
     }
@@ -86,7 +86,7 @@ fn word(i: u32, items: u32, edges: u32) -> u32
 }
 
 // The words of a chain's sheet, and what memory there is behind it. It answers how many words the sheet has.
-pub fn lay_chain(sheet: &mut [u32], items: u32, edges: u32) -> usize
+pub(crate) fn lay_chain(sheet: &mut [u32], items: u32, edges: u32) -> usize
     requires { ⌜ items ≤ 512 ⌝ }
     requires { ⌜ edges ≤ 4096 ⌝ }
 {

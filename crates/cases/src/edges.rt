@@ -146,6 +146,6 @@ fn with_chain(from: Tally) -> Tally {
     with_edge(from, 11, sorts(256, 2048, accepted(2048, 0, 0, 0), &wanted))
 }
 
-pub fn with_edges(from: Tally) -> Tally {
+pub(crate) fn with_edges(from: Tally) -> Tally {
     with_chain(with_sheets(with_lengths(with_more_rows(with_rows(from)))))
 }

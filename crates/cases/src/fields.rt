@@ -28,14 +28,14 @@ fn start_of(line: &[u8], field: usize) -> usize
 }
 
 // A field, counted from 0; an empty one where the line has fewer.
-pub fn field<'a>(line: &'a [u8], i: usize) -> &'a [u8] {
+pub(crate) fn field<'a>(line: &'a [u8], i: usize) -> &'a [u8] {
     let start = start_of(line, i);
     let end = find(line, b' ', start);
     &line[start..end]
 }
 
 // Whether a line has all fields and no more, and none is empty.
-pub fn is_whole(line: &[u8]) -> bool {
+pub(crate) fn is_whole(line: &[u8]) -> bool {
     for i in 0..FIELDS {
         let one = field(line, i);
         if one.len() == 0 {
@@ -47,7 +47,7 @@ pub fn is_whole(line: &[u8]) -> bool {
 }
 
 // Whether two fields are the same.
-pub fn same(a: &[u8], b: &[u8]) -> bool {
+pub(crate) fn same(a: &[u8], b: &[u8]) -> bool {
     if a.len() != b.len() {
         return false;
     }
@@ -70,7 +70,7 @@ fn digit(b: u8) -> u64
 }
 
 // The number that some digits say.
-pub fn decimal(digits: &[u8]) -> Number {
+pub(crate) fn decimal(digits: &[u8]) -> Number {
     if digits.len() == 0 {
         return Number::None;
     }

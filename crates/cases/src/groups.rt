@@ -28,7 +28,7 @@ const NAMES: [u8; 73] =
     *b"open next_raw next eat expect list_raw list string id explicit sort edges";
 
 // The group of a call's cases.
-pub fn group(call: Call) -> usize
+pub(crate) fn group(call: Call) -> usize
     ensures { λ r. ⌜ r < 12 ⌝ }
 {
     match call {
@@ -70,7 +70,7 @@ fn is_named(group: usize, name: &[u8]) -> bool {
 }
 
 // The call that a line's first field names, or an edge where it names none.
-pub fn call_of(name: &[u8]) -> Call {
+pub(crate) fn call_of(name: &[u8]) -> Call {
     for i in 0..GROUPS {
         if is_named(i, name) {
             return call_in(i);
@@ -79,6 +79,6 @@ pub fn call_of(name: &[u8]) -> Call {
     Call::Edge
 }
 
-pub fn print_name(group: usize) {
+pub(crate) fn print_name(group: usize) {
     io::write_all(STDOUT_FILENO, field(&NAMES, group));
 }

@@ -55,7 +55,7 @@ fn lay_word(part: &[u8], words: &mut [u32], n: usize) -> Laid {
 }
 
 // The words of a field.
-pub fn lay_words(field: &[u8], words: &mut [u32]) -> Laid {
+pub(crate) fn lay_words(field: &[u8], words: &mut [u32]) -> Laid {
     if same(field, b"-") {
         return Laid::Count(0);
     }
@@ -168,7 +168,7 @@ fn lay_part(part: &[u8], bytes: &mut [u8], n: usize) -> Laid {
 }
 
 // The bytes of a field.
-pub fn lay_bytes(field: &[u8], bytes: &mut [u8]) -> Laid {
+pub(crate) fn lay_bytes(field: &[u8], bytes: &mut [u8]) -> Laid {
     if same(field, b"-") {
         return Laid::Count(0);
     }

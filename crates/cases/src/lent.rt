@@ -7,7 +7,7 @@ ghost use Rattle.answers.specs.Places.{place};
 ghost use Rattle.steps.specs.Steps.{nextRawAt, nextAt, eatAt, expectAt};
 ghost use Rattle.cursors.specs.Cursors.{plain};
 
-pub fn next_raw(text: &[u8], offset: u32, from: u32) -> Went
+pub(crate) fn next_raw(text: &[u8], offset: u32, from: u32) -> Went
     ensures { λ r. ⌜ r ≡ plain (nextRawAt (now (text .entry)) offset (place from)) ⌝ }
 {
     let mut cursor = Cursor { at: Place(from) };
@@ -18,7 +18,7 @@ pub fn next_raw(text: &[u8], offset: u32, from: u32) -> Went
     }
 }
 
-pub fn next(text: &[u8], offset: u32, from: u32) -> Went
+pub(crate) fn next(text: &[u8], offset: u32, from: u32) -> Went
     ensures { λ r. ⌜ r ≡ plain (nextAt (now (text .entry)) offset (place from)) ⌝ }
 {
     let mut cursor = Cursor { at: Place(from) };
@@ -29,7 +29,7 @@ pub fn next(text: &[u8], offset: u32, from: u32) -> Went
     }
 }
 
-pub fn eat(text: &[u8], offset: u32, from: u32, wanted: u32) -> Went
+pub(crate) fn eat(text: &[u8], offset: u32, from: u32, wanted: u32) -> Went
     ensures { λ r. ⌜ r ≡ plain (eatAt (now (text .entry)) offset wanted (place from)) ⌝ }
 {
     let mut cursor = Cursor { at: Place(from) };
@@ -40,7 +40,7 @@ pub fn eat(text: &[u8], offset: u32, from: u32, wanted: u32) -> Went
     }
 }
 
-pub fn expect(text: &[u8], offset: u32, from: u32, wanted: u32) -> Went
+pub(crate) fn expect(text: &[u8], offset: u32, from: u32, wanted: u32) -> Went
     ensures { λ r. ⌜ r ≡ plain (expectAt (now (text .entry)) offset wanted (place from)) ⌝ }
 {
     let mut cursor = Cursor { at: Place(from) };

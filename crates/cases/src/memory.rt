@@ -11,7 +11,7 @@ pub enum Outcome {
     Malformed,
 }
 
-pub fn judged(is_same: bool) -> Outcome {
+pub(crate) fn judged(is_same: bool) -> Outcome {
     if is_same {
         return Outcome::Same;
     }
@@ -19,14 +19,14 @@ pub fn judged(is_same: bool) -> Outcome {
 }
 
 // The first n, or none where there are fewer.
-pub fn first_bytes<'a>(bytes: &'a [u8], n: usize) -> &'a [u8] {
+pub(crate) fn first_bytes<'a>(bytes: &'a [u8], n: usize) -> &'a [u8] {
     if bytes.len() < n {
         return &bytes[0..0];
     }
     &bytes[0..n]
 }
 
-pub fn first_words<'a>(words: &'a [u32], n: usize) -> &'a [u32] {
+pub(crate) fn first_words<'a>(words: &'a [u32], n: usize) -> &'a [u32] {
     if words.len() < n {
         return &words[0..0];
     }
@@ -34,19 +34,19 @@ pub fn first_words<'a>(words: &'a [u32], n: usize) -> &'a [u32] {
 }
 
 // What stands at each place before a call: no two neighbours are the same.
-pub fn fill_words(words: &mut [u32]) {
+pub(crate) fn fill_words(words: &mut [u32]) {
     for i in 0..words.len() {
         words[i] = 0xA5000000 + (i % 65536) as u32;
     }
 }
 
-pub fn fill_bytes(bytes: &mut [u8]) {
+pub(crate) fn fill_bytes(bytes: &mut [u8]) {
     for i in 0..bytes.len() {
         bytes[i] = (i % 251) as u8;
     }
 }
 
-pub fn same_words(a: &[u32], b: &[u32]) -> bool {
+pub(crate) fn same_words(a: &[u32], b: &[u32]) -> bool {
     if a.len() != b.len() {
         return false;
     }
@@ -59,7 +59,7 @@ pub fn same_words(a: &[u32], b: &[u32]) -> bool {
 }
 
 // Whether lent words are at their front what a field says and behind it as they were filled. That is laid out in as many others.
-pub fn holds_words(written: &[u8], lent: &[u32], wanted: &mut [u32]) -> Outcome {
+pub(crate) fn holds_words(written: &[u8], lent: &[u32], wanted: &mut [u32]) -> Outcome {
     fill_words(wanted);
     match lay_words(written, wanted) {
         Laid::Count(_) => judged(same_words(lent, wanted)),
@@ -68,7 +68,7 @@ pub fn holds_words(written: &[u8], lent: &[u32], wanted: &mut [u32]) -> Outcome 
 }
 
 // The same of lent bytes.
-pub fn holds_bytes(written: &[u8], lent: &[u8], wanted: &mut [u8]) -> Outcome {
+pub(crate) fn holds_bytes(written: &[u8], lent: &[u8], wanted: &mut [u8]) -> Outcome {
     fill_bytes(wanted);
     match lay_bytes(written, wanted) {
         Laid::Count(_) => judged(same(lent, wanted)),

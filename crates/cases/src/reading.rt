@@ -3,7 +3,7 @@ ghost use Prim.Native.Nat.{_≤_};
 ghost use lib.ListN.{length};
 
 // The first place from a place on where a byte stands, or the end.
-pub fn find(bytes: &[u8], byte: u8, from: usize) -> usize
+pub(crate) fn find(bytes: &[u8], byte: u8, from: usize) -> usize
     requires { ⌜ from ≤ length (now bytes) ⌝ }
     ensures { λ r. ⌜ (from ≤ r) × (r ≤ length (now (bytes .entry))) ⌝ }
 {
@@ -18,7 +18,7 @@ pub fn find(bytes: &[u8], byte: u8, from: usize) -> usize
 }
 
 // How many bytes the whole lines take: the place behind the last newline.
-pub fn whole_lines(bytes: &[u8]) -> usize
+pub(crate) fn whole_lines(bytes: &[u8]) -> usize
     ensures { λ r. ⌜ r ≤ length (now (bytes .entry)) ⌝ }
 {
     let mut end = bytes.len();
@@ -32,7 +32,7 @@ pub fn whole_lines(bytes: &[u8]) -> usize
 }
 
 // Reads on behind what is held, and answers how many bytes are held then: no more where the file has ended or the buffer is full.
-pub fn refill(fd: i32, buffer: &mut [u8], held: usize) -> usize
+pub(crate) fn refill(fd: i32, buffer: &mut [u8], held: usize) -> usize
     requires { ⌜ held ≤ length (now buffer) ⌝ }
     ensures { λ r. ⌜ (held ≤ r) × (r ≤ length (now (buffer .exit))) ⌝ }
 {
@@ -41,7 +41,7 @@ pub fn refill(fd: i32, buffer: &mut [u8], held: usize) -> usize
 }
 
 // Moves the held bytes from a place on to the front, and answers how many they are.
-pub fn keep(buffer: &mut [u8], from: usize, held: usize) -> usize
+pub(crate) fn keep(buffer: &mut [u8], from: usize, held: usize) -> usize
     requires { ⌜ (from ≤ held) × (held ≤ length (now buffer)) ⌝ }
     ensures { λ r. ⌜ r ≤ length (now (buffer .exit)) ⌝ }
 {

@@ -106,7 +106,7 @@ fn with_rest(progress: Progress) -> Tally {
 }
 
 // The whole file. Nothing says that a file ends, so the turns are counted down from a number that no run uses up.
-pub fn replay(from: Tally, fd: i32, buffer: &mut [u8]) -> Tally {
+pub(crate) fn replay(from: Tally, fd: i32, buffer: &mut [u8]) -> Tally {
     let mut progress = started(from);
     let mut turns = u64::MAX;
     while turns > 0 && !progress.ends {

@@ -134,7 +134,7 @@ fn run_call(line: &[u8], call: Call, text: &[u8]) -> Outcome {
 }
 
 // What comes of a line that is a case.
-pub fn run_line(line: &[u8], call: Call) -> Outcome {
+pub(crate) fn run_line(line: &[u8], call: Call) -> Outcome {
     let mut text = [0u8; BYTES];
     let Laid::Count(count) = lay_bytes(field(line, asked::BYTES), &mut text) else {
         return Outcome::Malformed;

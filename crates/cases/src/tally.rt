@@ -15,7 +15,7 @@ pub struct Tally {
     pub differ: [u32; 12],
 }
 
-pub fn nothing() -> Tally {
+pub(crate) fn nothing() -> Tally {
     Tally {
         lines: 0,
         comments: 0,
@@ -29,20 +29,20 @@ fn one_more(n: u32) -> u32 {
     std::num::wrapping_add_u32(n, 1)
 }
 
-pub fn with_line(from: Tally) -> Tally {
+pub(crate) fn with_line(from: Tally) -> Tally {
     let mut t = from;
     t.lines = one_more(t.lines);
     t
 }
 
-pub fn with_comment(from: Tally) -> Tally {
+pub(crate) fn with_comment(from: Tally) -> Tally {
     let mut t = from;
     t.comments = one_more(t.comments);
     t
 }
 
 // One more line that cannot be read: it is named.
-pub fn with_malformed(from: Tally) -> Tally {
+pub(crate) fn with_malformed(from: Tally) -> Tally {
     let mut t = from;
     t.malformed = one_more(t.malformed);
     print_number(b"line ", t.lines);
@@ -51,7 +51,7 @@ pub fn with_malformed(from: Tally) -> Tally {
 }
 
 // One more case of a group, which answers as it should.
-pub fn with_same(from: Tally, call: Call) -> Tally {
+pub(crate) fn with_same(from: Tally, call: Call) -> Tally {
     let mut t = from;
     let i = group(call);
     t.cases[i] = one_more(t.cases[i]);
@@ -59,7 +59,7 @@ pub fn with_same(from: Tally, call: Call) -> Tally {
 }
 
 // One more case of a group, which differs: it is named, by its line or by its number among the edges.
-pub fn with_different(from: Tally, call: Call, label: &[u8], number: u32) -> Tally {
+pub(crate) fn with_different(from: Tally, call: Call, label: &[u8], number: u32) -> Tally {
     let mut t = with_same(from, call);
     let i = group(call);
     t.differ[i] = one_more(t.differ[i]);
@@ -90,7 +90,7 @@ fn print_groups(t: Tally) {
     }
 }
 
-pub fn print_tally(t: Tally) {
+pub(crate) fn print_tally(t: Tally) {
     print_number(b"", t.lines);
     print_number(b" lines: ", t.comments);
     print_number(b" comments, ", t.malformed);

@@ -22,7 +22,7 @@ fn nothing() -> Built {
 }
 
 // The sheet goes to the front of the words, which have room for 256 items and 2,048 dependencies; so has the table of what is needed, with a header.
-pub fn build(name: &[u8], text: &[u8], words: &mut [u32]) -> Built {
+pub(crate) fn build(name: &[u8], text: &[u8], words: &mut [u32]) -> Built {
     let mut table = [0u32; 8197];
     let listed = reading::read(text, false, words, &mut table);
     if listed.fault > 0 {

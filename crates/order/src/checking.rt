@@ -68,7 +68,7 @@ fn shortened(names: u32) -> usize {
     if names < 257 { names as usize } else { 257 }
 }
 
-pub fn print(order_name: &[u8], order: &[u8], name: &[u8], text: &[u8]) {
+pub(crate) fn print(order_name: &[u8], order: &[u8], name: &[u8], text: &[u8]) {
     let mut rows = [0u32; 1033];
     let listed = reading::read(order, true, &mut rows, &mut []);
     if listed.fault > 0 {

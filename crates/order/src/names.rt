@@ -17,7 +17,7 @@ fn is_same(text: &[u8], sheet: &[u32], r: u32, others: &[u8], other: &[u32], q: 
 }
 
 // The first of the items that has the name of row q of another sheet; their number where none has.
-pub fn item_of(
+pub(crate) fn item_of(
     text: &[u8],
     sheet: &[u32],
     items: u32,
@@ -36,7 +36,14 @@ pub fn item_of(
 }
 
 // The item of each row of an order.
-pub fn fill(list: &mut [u32], text: &[u8], sheet: &[u32], items: u32, order: &[u8], rows: &[u32]) {
+pub(crate) fn fill(
+    list: &mut [u32],
+    text: &[u8],
+    sheet: &[u32],
+    items: u32,
+    order: &[u8],
+    rows: &[u32],
+) {
     let mut k = 0;
     let mut row = 0u32;
     while k < list.len() {
@@ -46,7 +53,7 @@ pub fn fill(list: &mut [u32], text: &[u8], sheet: &[u32], items: u32, order: &[u
     }
 }
 
-pub fn has(list: &[u32], item: u32) -> bool {
+pub(crate) fn has(list: &[u32], item: u32) -> bool {
     let mut k = 0;
     while k < list.len() {
         if list[k] == item {

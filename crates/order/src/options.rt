@@ -7,7 +7,7 @@ pub enum Task {
     Help,
 }
 
-pub fn print_usage() {
+pub(crate) fn print_usage() {
     files::output()
         .text(
             b"\
@@ -51,7 +51,7 @@ fn task_of(word: &[u8], count: usize) -> Task {
     Task::Sort
 }
 
-pub fn asked() -> Task {
+pub(crate) fn asked() -> Task {
     let mut buffer = io::buffer();
     let n = os::arg(1, &mut buffer);
     task_of(&buffer[0..n], os::arg_count())

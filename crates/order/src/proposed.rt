@@ -69,7 +69,7 @@ fn print_early(
 }
 
 // 33, by the list's first fault.
-pub fn print_fault(
+pub(crate) fn print_fault(
     name: &[u8],
     order: &[u8],
     rows: &[u32],

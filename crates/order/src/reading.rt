@@ -104,7 +104,7 @@ fn is_past(text: &[u8], at: u32) -> bool {
 
 // The rows of items are their sheet's; those of what is needed go to a table of their own, since only the end of the list tells where they belong.
 // Each word passes at least a byte, and the last is the newline behind the text, so no run uses up the turns.
-pub fn read(text: &[u8], is_order: bool, items: &mut [u32], needs: &mut [u32]) -> Listed {
+pub(crate) fn read(text: &[u8], is_order: bool, items: &mut [u32], needs: &mut [u32]) -> Listed {
     let mut listed = Listed {
         is_order,
         items: 0,

@@ -3,12 +3,12 @@ use crate::sheet::word;
 use answers::Numbers;
 use files::Out;
 
-pub fn file(name: &[u8]) -> Out {
+pub(crate) fn file(name: &[u8]) -> Out {
     files::output().text(name).byte(b':')
 }
 
 // A line that is no item and what it needs.
-pub fn print_fault(name: &[u8], line: u32, fault: u32) {
+pub(crate) fn print_fault(name: &[u8], line: u32, fault: u32) {
     file(name).number(line as u64)
         .text(b": ")
         .entry(
@@ -26,7 +26,7 @@ pub fn print_fault(name: &[u8], line: u32, fault: u32) {
 }
 
 // What has no line of its own.
-pub fn print_plain(name: &[u8], told: Numbers) {
+pub(crate) fn print_plain(name: &[u8], told: Numbers) {
     file(name).byte(b' ')
         .message(told.number)
         .numbers(told)
@@ -43,7 +43,7 @@ fn part(out: Out, text: &[u8], place: u32, length: u32) -> Out {
 }
 
 // The name of row r of a sheet.
-pub fn name_of(out: Out, text: &[u8], sheet: &[u32], r: u32) -> Out {
+pub(crate) fn name_of(out: Out, text: &[u8], sheet: &[u32], r: u32) -> Out {
     part(out, text, word(sheet, r, 0), word(sheet, r, 1))
 }
 
@@ -55,7 +55,7 @@ fn line_of(text: &[u8], at: usize) -> usize {
 }
 
 // The file, and the line of row r.
-pub fn line_at(name: &[u8], text: &[u8], sheet: &[u32], r: u32) -> Out {
+pub(crate) fn line_at(name: &[u8], text: &[u8], sheet: &[u32], r: u32) -> Out {
     let line = line_of(text, word(sheet, r, 0) as usize);
     file(name).number(line as u64).text(b": ")
 }
@@ -66,7 +66,7 @@ fn placed(name: &[u8], text: &[u8], sheet: &[u32], r: u32, number: u32) -> Out {
 }
 
 // 28: an item whose name an earlier one has.
-pub fn print_item(name: &[u8], text: &[u8], sheet: &[u32], told: Numbers) {
+pub(crate) fn print_item(name: &[u8], text: &[u8], sheet: &[u32], told: Numbers) {
     let said = placed(name, text, sheet, told.detail, told.number);
     name_of(said, text, sheet, told.detail)
         .numbers(told)
@@ -96,14 +96,14 @@ fn needing(name: &[u8], text: &[u8], sheet: &[u32], items: u32, told: Numbers) -
 }
 
 // 29: a dependency on a name that is not listed.
-pub fn print_unknown(name: &[u8], text: &[u8], sheet: &[u32], items: u32, told: Numbers) {
+pub(crate) fn print_unknown(name: &[u8], text: &[u8], sheet: &[u32], items: u32, told: Numbers) {
     needing(name, text, sheet, items, told)
         .numbers(told)
         .flush();
 }
 
 // 30: the first dependency that could not be settled and whose item could not be placed; it need not lie on the circle itself.
-pub fn print_circle(
+pub(crate) fn print_circle(
     name: &[u8],
     text: &[u8],
     sheet: &[u32],

@@ -17,12 +17,12 @@ fn put(words: &mut [u32], i: usize, w: u32) {
     }
 }
 
-pub fn word(sheet: &[u32], r: u32, k: u32) -> u32 {
+pub(crate) fn word(sheet: &[u32], r: u32, k: u32) -> u32 {
     get(sheet, at(r, k))
 }
 
 // A row: where its name starts in the names, the name's length, and two words more.
-pub fn put_row(sheet: &mut [u32], r: u32, place: u32, length: u32, third: u32, fourth: u32) {
+pub(crate) fn put_row(sheet: &mut [u32], r: u32, place: u32, length: u32, third: u32, fourth: u32) {
     put(sheet, at(r, 0), place);
     put(sheet, at(r, 1), length);
     put(sheet, at(r, 2), third);
@@ -30,20 +30,20 @@ pub fn put_row(sheet: &mut [u32], r: u32, place: u32, length: u32, third: u32, f
 }
 
 // One dependency more in the row of an item.
-pub fn count_need(sheet: &mut [u32], item: u32) {
+pub(crate) fn count_need(sheet: &mut [u32], item: u32) {
     let count = std::num::wrapping_add_u32(word(sheet, item, 3), 1);
     put(sheet, at(item, 3), count);
 }
 
 // How many words a sheet has.
-pub fn words(items: u32, needs: u32) -> u32
+pub(crate) fn words(items: u32, needs: u32) -> u32
     requires { ⌜ items ≤ 256 ⌝ }
     requires { ⌜ needs ≤ 2048 ⌝ }
 {
     5 + 4 * items + 4 * needs
 }
 
-pub fn put_header(sheet: &mut [u32], items: u32, needs: u32)
+pub(crate) fn put_header(sheet: &mut [u32], items: u32, needs: u32)
     requires { ⌜ items ≤ 256 ⌝ }
     requires { ⌜ needs ≤ 2048 ⌝ }
 {
@@ -55,7 +55,7 @@ pub fn put_header(sheet: &mut [u32], items: u32, needs: u32)
 }
 
 // The rows of what is needed, from a table of their own to their place behind the items.
-pub fn append(sheet: &mut [u32], items: u32, needs: u32, table: &[u32]) {
+pub(crate) fn append(sheet: &mut [u32], items: u32, needs: u32, table: &[u32]) {
     let mut r = 0;
     while r < needs {
         put_row(

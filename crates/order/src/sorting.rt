@@ -31,7 +31,7 @@ fn print_settled(task: Task, settled: u32) {
     }
 }
 
-pub fn print_refusal(
+pub(crate) fn print_refusal(
     name: &[u8],
     text: &[u8],
     sheet: &[u32],
@@ -70,7 +70,7 @@ fn print_sorted(name: &[u8], text: &[u8], sheet: &[u32], items: u32, task: Task)
     }
 }
 
-pub fn print(name: &[u8], text: &[u8], task: Task) {
+pub(crate) fn print(name: &[u8], text: &[u8], task: Task) {
     let mut words = [0u32; 9221];
     let built = building::build(name, text, &mut words);
     if !built.ok {

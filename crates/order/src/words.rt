@@ -50,7 +50,7 @@ fn run_end(text: &[u8], from: u32, is_comment: bool) -> u32 {
     end
 }
 
-pub fn word_at(text: &[u8], at: u32) -> Word {
+pub(crate) fn word_at(text: &[u8], at: u32) -> Word {
     let behind = std::num::wrapping_add_u32(at, 1);
     match mark_of(byte_at(text, at)) {
         Mark::Comment => Word {

@@ -24,7 +24,7 @@ fn seen_at(text: &[u8], at: u32) -> Seen {
 }
 
 // Characters that show as nothing, end a line or change the direction of what follows, and numbers that are none.
-pub fn is_hidden(c: u32) -> bool {
+pub(crate) fn is_hidden(c: u32) -> bool {
     match c {
         0..=0x1F | 0x7F..=0x9F | 0x2028..=0x202E | 0x2066..=0x2069 => true,
         _ => c > 0x10FFFF,
@@ -39,13 +39,13 @@ fn with_first(out: Out, bytes: &[u8], n: usize) -> Out {
     out.text(&bytes[0..n])
 }
 
-pub fn character(out: Out, c: u32) -> Out {
+pub(crate) fn character(out: Out, c: u32) -> Out {
     let mut bytes = [0u8; 4];
     let n = chars::encode(c, &mut bytes);
     with_first(out, &bytes, n)
 }
 
-pub fn hex(out: Out, n: u32) -> Out {
+pub(crate) fn hex(out: Out, n: u32) -> Out {
     let mut digits = [0u8; 16];
     let k = io::hex(n as u64, 1, &mut digits);
     out.text(&digits[0..k])
@@ -69,7 +69,7 @@ fn capitals(from: Out, digits: &[u8]) -> Out {
 }
 
 // A character by its number, as Unicode writes it.
-pub fn code_point(out: Out, c: u32) -> Out {
+pub(crate) fn code_point(out: Out, c: u32) -> Out {
     let mut digits = [0u8; 16];
     let k = io::hex(c as u64, 4, &mut digits);
     capitals(out.text(b"U+"), &digits[0..k])
@@ -104,7 +104,7 @@ fn plain(out: Out, c: u32) -> Out {
 }
 
 // The characters from a place to another. Each turn passes at least a byte, so no run uses up the turns.
-pub fn shown(from: Out, text: &[u8], start: u32, end: u32, is_quoted: bool) -> Out {
+pub(crate) fn shown(from: Out, text: &[u8], start: u32, end: u32, is_quoted: bool) -> Out {
     let mut out = from;
     let mut at = start;
     let mut turns = text.len();

@@ -2,7 +2,7 @@
 use files::Out;
 use tokens::Token;
 
-pub fn name_of(out: Out, kind: Token) -> Out {
+pub(crate) fn name_of(out: Out, kind: Token) -> Out {
     out.entry(
         b"\
         Whitespace    \nComment       \nEquals        \nComma         \nColon         \n\

@@ -20,7 +20,7 @@ fn text_start(text: &[u8]) -> u32 {
 }
 
 // Behind the newline before the place, or where the text starts.
-pub fn line_start(text: &[u8], at: u32) -> u32 {
+pub(crate) fn line_start(text: &[u8], at: u32) -> u32 {
     let first = text_start(text);
     let mut start = at;
     while start > first {
@@ -48,7 +48,7 @@ fn newline_from(text: &[u8], at: u32) -> u32 {
 }
 
 // Where the line's last character ends: a carriage return before the newline is part of the newline.
-pub fn line_end(text: &[u8], at: u32) -> u32 {
+pub(crate) fn line_end(text: &[u8], at: u32) -> u32 {
     let end = newline_from(text, at);
     if end > at {
         if chars::byte_at(text, Place(end)) == 10 {
@@ -67,7 +67,7 @@ fn starts(text: &[u8], at: u32) -> bool {
 }
 
 // Characters are counted from 1. Those before a refusal are well formed, so each has one byte that starts it.
-pub fn column(text: &[u8], start: u32, at: u32) -> u32 {
+pub(crate) fn column(text: &[u8], start: u32, at: u32) -> u32 {
     let mut column = 1;
     let mut k = start;
     while k < at {
@@ -80,7 +80,7 @@ pub fn column(text: &[u8], start: u32, at: u32) -> u32 {
 }
 
 // A caret under the place: as many blanks as there are characters, and tabs where they have tabs.
-pub fn caret(from: Out, text: &[u8], start: u32, at: u32) -> Out {
+pub(crate) fn caret(from: Out, text: &[u8], start: u32, at: u32) -> Out {
     let mut out = from;
     let mut k = start;
     while k < at {

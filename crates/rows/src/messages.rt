@@ -16,7 +16,7 @@ fn named(out: Out, c: u32) -> Out {
 }
 
 // What a refusal's detail is follows from its number.
-pub fn message(out: Out, told: Numbers) -> Out {
+pub(crate) fn message(out: Out, told: Numbers) -> Out {
     let number = told.number;
     let said = out.message(number);
     match number {

@@ -57,7 +57,7 @@ fn with_word(asked: Asked, i: usize) -> Asked {
 }
 
 // With no file there is nothing to do but to say what the program is for.
-pub fn arguments() -> Asked {
+pub(crate) fn arguments() -> Asked {
     let mut asked = Asked {
         filtered: false,
         numbers: false,
@@ -77,7 +77,7 @@ pub fn arguments() -> Asked {
     asked
 }
 
-pub fn print_usage() {
+pub(crate) fn print_usage() {
     files::output()
         .text(
             b"\
@@ -96,7 +96,7 @@ pub fn print_usage() {
 }
 
 // An argument that is no option, or one file too many.
-pub fn print_wrong(i: usize) {
+pub(crate) fn print_wrong(i: usize) {
     let mut buffer = io::buffer();
     let n = os::arg(i, &mut buffer);
     let word = &buffer[0..n];

@@ -14,7 +14,7 @@ fn line_of(text: &[u8], at: u32) -> usize {
     files::line_behind(&text[0..before])
 }
 
-pub fn print(out: Out, name: &[u8], text: &[u8], refusal: Refusal) -> Out {
+pub(crate) fn print(out: Out, name: &[u8], text: &[u8], refusal: Refusal) -> Out {
     let told = refusal.numbers();
     let at = told.position;
     let start = lines::line_start(text, at);

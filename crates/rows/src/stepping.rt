@@ -116,7 +116,7 @@ fn print_from(from: Out, start: Place, name: &[u8], text: &[u8], asked: Asked) -
     out
 }
 
-pub fn print(name: &[u8], text: &[u8], asked: Asked) {
+pub(crate) fn print(name: &[u8], text: &[u8], asked: Asked) {
     let out = files::output();
     let printed = match steps::open(text, 0) {
         Opened::Refused(refusal) => refusing::print(out, name, text, refusal),

@@ -64,7 +64,7 @@ fn print_header(label: &[u8], n: u32, e: u32) {
     print_answer(label, clerk::toposort(&words, b"", &mut order));
 }
 
-pub fn print_all() {
+pub(crate) fn print_all() {
     print_full();
     print_header(b"257 items: ", 257, 0);
     print_header(b"2049 dependencies: ", 0, 2049);

@@ -103,7 +103,7 @@ fn checked(sheet: &[u32], l: u32) -> Verdict {
 }
 
 // Each list, tried.
-pub fn with_lists(from: Tally, sheet: &[u32], n: u32, e: u32, g: u32) -> Tally {
+pub(crate) fn with_lists(from: Tally, sheet: &[u32], n: u32, e: u32, g: u32) -> Tally {
     let mut t = from;
     for l in 0u32..85 {
         t.lists = more(t.lists);

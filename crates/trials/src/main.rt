@@ -21,7 +21,7 @@ pub struct Tally {
     pub differ: u32,
 }
 
-pub fn more(n: u32) -> u32 {
+pub(crate) fn more(n: u32) -> u32 {
     std::num::wrapping_add_u32(n, 1)
 }
 
@@ -88,7 +88,7 @@ fn print_number(label: &[u8], n: u32) {
 }
 
 // The three numbers of an answer.
-pub fn print_answer(label: &[u8], r: Sorted) {
+pub(crate) fn print_answer(label: &[u8], r: Sorted) {
     let verdict: Verdict = r.verdict;
     let told = verdict.numbers();
     print_number(label, told.number);

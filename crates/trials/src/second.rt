@@ -15,7 +15,7 @@ fn permutation(p: u32) -> u32 {
 }
 
 // The item at place j.
-pub fn at_place(p: u32, j: u32) -> u32 {
+pub(crate) fn at_place(p: u32, j: u32) -> u32 {
     match j {
         0 => permutation(p) / 100,
         1 => permutation(p) / 10 % 10,
@@ -35,7 +35,7 @@ fn place_of(p: u32, i: u32) -> u32 {
 }
 
 // Items that are not there stand in their own places, and each dependency stands before what needs it.
-pub fn is_order(n: u32, e: u32, g: u32, p: u32) -> bool {
+pub(crate) fn is_order(n: u32, e: u32, g: u32, p: u32) -> bool {
     for i in n..3 {
         if at_place(p, i) != i {
             return false;
@@ -50,7 +50,7 @@ pub fn is_order(n: u32, e: u32, g: u32, p: u32) -> bool {
 }
 
 // The first permutation that is an order; 6 where none is.
-pub fn first_order(n: u32, e: u32, g: u32) -> u32 {
+pub(crate) fn first_order(n: u32, e: u32, g: u32) -> u32 {
     for p in 0u32..6 {
         if is_order(n, e, g, p) {
             return p;
@@ -60,7 +60,7 @@ pub fn first_order(n: u32, e: u32, g: u32) -> u32 {
 }
 
 // From i on the slice has the sevens that stood there.
-pub fn untouched(order: &[u32], from: u32) -> bool {
+pub(crate) fn untouched(order: &[u32], from: u32) -> bool {
     let mut i = from as usize;
     while i < order.len() {
         if order[i] != 7 {
@@ -72,7 +72,7 @@ pub fn untouched(order: &[u32], from: u32) -> bool {
 }
 
 // The permutation's items, and behind them the sevens.
-pub fn written(order: &[u32], n: u32, p: u32) -> bool {
+pub(crate) fn written(order: &[u32], n: u32, p: u32) -> bool {
     for j in 0..n {
         let i = j as usize;
         if order.len() <= i {
@@ -124,7 +124,7 @@ fn waits_for_ever(e: u32, g: u32, a: u32) -> bool {
 }
 
 // How many dependencies have a target that does not.
-pub fn settled(e: u32, g: u32) -> u32 {
+pub(crate) fn settled(e: u32, g: u32) -> u32 {
     let mut count = 0;
     for k in 0..e {
         if !waits_for_ever(e, g, target(g, k)) {
@@ -135,7 +135,7 @@ pub fn settled(e: u32, g: u32) -> u32 {
 }
 
 // The first dependency whose item and target both do.
-pub fn stuck(e: u32, g: u32) -> u32 {
+pub(crate) fn stuck(e: u32, g: u32) -> u32 {
     for k in 0..e {
         if waits_for_ever(e, g, item(g, k)) && waits_for_ever(e, g, target(g, k)) {
             return k;

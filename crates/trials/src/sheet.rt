@@ -11,11 +11,11 @@ fn digit(g: u32, k: u32) -> u32 {
 }
 
 // The item that lists dependency k, and its target.
-pub fn item(g: u32, k: u32) -> u32 {
+pub(crate) fn item(g: u32, k: u32) -> u32 {
     digit(g, k) / 3
 }
 
-pub fn target(g: u32, k: u32) -> u32 {
+pub(crate) fn target(g: u32, k: u32) -> u32 {
     digit(g, k) % 3
 }
 
@@ -32,7 +32,7 @@ fn ends(e: u32, g: u32) -> bool {
 }
 
 // The items of the dependencies do not go down, and all that is named is there.
-pub fn is_listing(n: u32, e: u32, g: u32) -> bool {
+pub(crate) fn is_listing(n: u32, e: u32, g: u32) -> bool {
     if !ends(e, g) {
         return false;
     }
@@ -73,7 +73,7 @@ fn put_word(words: &mut [u32], at: u32, word: u32) {
 }
 
 // Four words, as far as there is room.
-pub fn put(words: &mut [u32], at: u32, a: u32, b: u32, c: u32, d: u32) {
+pub(crate) fn put(words: &mut [u32], at: u32, a: u32, b: u32, c: u32, d: u32) {
     put_word(words, at, a);
     put_word(words, std::num::wrapping_add_u32(at, 1), b);
     put_word(words, std::num::wrapping_add_u32(at, 2), c);
@@ -85,12 +85,12 @@ fn words_of(n: u32, e: u32) -> u32 {
 }
 
 // How many words the sheet has.
-pub fn size(n: u32, e: u32) -> usize {
+pub(crate) fn size(n: u32, e: u32) -> usize {
     words_of(n, e) as usize
 }
 
 // The sheet of n items, named a, b and c, and the listing g.
-pub fn write(words: &mut [u32], n: u32, e: u32, g: u32) {
+pub(crate) fn write(words: &mut [u32], n: u32, e: u32, g: u32) {
     let items_end = words_of(n, 0);
     put(words, 0, n, e, 5, items_end);
     put(words, 4, words_of(n, e), 0, 0, 0);

@@ -77,7 +77,7 @@ fn with_number(from: Found, c: u32) -> Found {
     with_first(from, c, &bytes, n)
 }
 
-pub fn all() -> Found {
+pub(crate) fn all() -> Found {
     let mut f = Found {
         none: 0,
         same: 0,
@@ -93,7 +93,7 @@ pub fn all() -> Found {
     f
 }
 
-pub fn print_found(f: Found) {
+pub(crate) fn print_found(f: Found) {
     print_number(b" none ", f.none as u64);
     print_number(b", read back ", f.same as u64);
     print_number(b", not ", f.other as u64);

@@ -48,7 +48,7 @@ fn with_text_of(t: Tally, size: u32, k: u32) -> Tally {
 }
 
 // The first `count` texts of this many bytes.
-pub fn texts_of(size: u32, count: u32) -> Tally {
+pub(crate) fn texts_of(size: u32, count: u32) -> Tally {
     let mut t = nothing();
     for k in 0..count {
         t = with_text_of(t, size, k);

@@ -11,7 +11,7 @@ pub struct Tally {
     pub places: u64,
 }
 
-pub fn nothing() -> Tally {
+pub(crate) fn nothing() -> Tally {
     Tally {
         characters: 0,
         ill: 0,
@@ -26,7 +26,7 @@ fn more(n: u64, by: u32) -> u64 {
 }
 
 // The tally with what stands at the start of one more text.
-pub fn with_text(t: Tally, text: &[u8]) -> Tally {
+pub(crate) fn with_text(t: Tally, text: &[u8]) -> Tally {
     match chars::read_at(text, Place(0)) {
         Read::End => Tally {
             characters: t.characters,
@@ -52,12 +52,12 @@ pub fn with_text(t: Tally, text: &[u8]) -> Tally {
     }
 }
 
-pub fn print_number(label: &[u8], n: u64) {
+pub(crate) fn print_number(label: &[u8], n: u64) {
     io::write_all(STDOUT_FILENO, label);
     io::print_decimal(STDOUT_FILENO, n);
 }
 
-pub fn print_tally(t: Tally) {
+pub(crate) fn print_tally(t: Tally) {
     print_number(b" characters ", t.characters);
     print_number(b", ill-formed ", t.ill);
     print_number(b", ends ", t.ends);
