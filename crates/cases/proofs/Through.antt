@@ -49,7 +49,6 @@ use denote.Triple.Walked.{Stays, stay-none, stay-none-slice, walkOf, goes-none, 
 use denote.Triple.Clauses.{Clauses, closing, atExit, ensured, lasts}
 use denote.Exit.{yes}
 use Rattle.cursors.specs.declared.Cursor.{Cursor}
-use Rattle.cursors.specs.declared.Went.{Went}
 use Rattle.steps.specs.declared.Step.{Step}
 use Rattle.cursors.proofs.Cursor as T
 use Rattle.cursors.proofs.Cursor.Laws as T′

@@ -1,13 +1,12 @@
 -- The bytes of a character by its size, and what a buffer holds once they are stored one by one.
 use Prim.Native.Nat.{ℕ, zero, suc, _+_, _/_, _%_, _≤_, _<_}
-use mathlib.Core.Path.{_≡_, refl, sym, ap, _∙_}
-use mathlib.Core.Bool.{Bool, true, false, _&&_}
+use mathlib.Core.Path.{_≡_, ap, _∙_}
+use mathlib.Core.Bool.{true, false}
 use mathlib.Core.List.{List, [], _∷_, _++_}
 use native.Mathlib.Omega.{arith}
-use lib.ListN.{length, getD, drop, take}
+use lib.ListN.{length, getD, drop}
 use lib.Seq.{sets, sets-eq}
 use borrow.Author.Tests.{le-leb, lt-leb}
-use Rattle.terms.specs.Terms.{if_then_else_}
 use Rattle.terms.proofs.TableLaws.{split}
 use Rattle.chars.specs.Utf8.{isScalar, encode, encoded}
 

@@ -1,5 +1,5 @@
 -- What is seen from a place on depends only on the text from there on.
-use Prim.Native.Nat.{ℕ, zero, suc, _≤_, _<_, _+_, _-_}
+use Prim.Native.Nat.{ℕ, zero, suc, _≤_, _+_, _-_}
 use mathlib.Core.Path.{_≡_, refl, sym, ap, _∙_}
 use mathlib.Core.List.{List}
 use native.Mathlib.Omega.{arith}

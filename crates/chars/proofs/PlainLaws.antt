@@ -1,18 +1,17 @@
 -- Plain text is as many characters, of one byte each; and so is a place where a byte reads as itself.
-use Prim.Native.Nat.{ℕ, _+_, _-_, _≤_, _<_, min}
+use Prim.Native.Nat.{ℕ, _-_, _≤_, _<_, min}
 use mathlib.Core.Path.{_≡_, refl}
 use mathlib.Core.Bool.{Bool, true, false, not, _&&_, _||_}
 use mathlib.Core.List.{List, []}
 use mathlib.Core.Logic.{⊎-elim}
 use native.Mathlib.Omega.{arith}
 use lib.Dec.{leb, ltb, eqb}
-use lib.ListN.{length, getD}
+use lib.ListN.{length}
 use borrow.Author.Tests.{ltb-true, leb-false, eqb-true, eqb-false, not-true, not-false}
 use Rattle.terms.specs.Terms.{if_then_else_, within, first}
 use Rattle.terms.proofs.TestLaws.{and-both, or-either, or-neither, clash, within-true}
-use Rattle.terms.proofs.FirstLaws.{first-le, first-from}
+use Rattle.terms.proofs.FirstLaws.{first-from}
 use Rattle.answers.specs.declared.Place.{Place}
-use Rattle.answers.specs.Places.{place}
 use Rattle.answers.specs.Caps.{cap}
 use Rattle.chars.specs.Utf8.{byteAt, onBy, charAt}
 use Rattle.chars.specs.View.{foldedAt}
@@ -51,10 +50,6 @@ module _ (s : List ℕ) (x y z : ℕ) (p : Place) where
   pub plain-beyond : p .0 ≤ plainEnd s x y z p .0
   unfolding plainEnd
   plain-beyond = first-from (haltsAt s x y z) (min (length s) cap - p .0) (p .0)
-
-  pub plain-inside : plainEnd s x y z p .0 ≤ p .0 + (min (length s) cap - p .0)
-  unfolding plainEnd
-  plain-inside = first-le (haltsAt s x y z) (min (length s) cap - p .0) (p .0)
 
   -- THE LAW: what no such byte changes, the whole stretch does not change
   plain-steps : {A : Type 0} (F : Place → A)

@@ -1,6 +1,6 @@
 -- Reading and encoding undo each other.
 use Prim.Native.Nat.{ℕ, zero, suc, _+_, _-_, _*_, _/_, _%_, _≤_, _<_}
-use mathlib.Core.Path.{_≡_, refl, sym, ap, ap₂, _∙_}
+use mathlib.Core.Path.{_≡_, refl, sym, ap, _∙_}
 use mathlib.Core.Bool.{Bool, true, false, _&&_, _||_}
 use mathlib.Core.List.{List, [], _∷_, _++_}
 use mathlib.Core.Logic.{_⊎_, inl, inr, ⊎-elim}
@@ -9,7 +9,7 @@ use native.Mathlib.Nat.{add-zero}
 use lib.Dec.{leb}
 use lib.ListN.{length, getD, take, drop, length-append, length-take, length-drop, drop-of-length-le, take-append-drop}
 use lib.Seq.{getD-append-add, getD-take, getD-drop, drop-cons, drop-drop}
-use borrow.Author.Tests.{lt-leb, leb-true, leb-false}
+use borrow.Author.Tests.{lt-leb}
 use Rattle.terms.specs.Terms.{if_then_else_, within, said}
 use Rattle.terms.proofs.TestLaws.{within-yes, within-true, and-both}
 use Rattle.terms.proofs.TableLaws.{in-match, split, word, isKey, isKeys, up, down}
@@ -18,14 +18,14 @@ use Rattle.answers.specs.declared.Verdict.the-variants.{Accepted}
 use Rattle.answers.specs.Places.{place}
 use Rattle.answers.proofs.CapsLaws.{refused-not}
 use Rattle.answers.specs.Caps.{cap}
-use Rattle.chars.specs.Utf8.{byteAt, onBy, leads, leadOf, isTail, illAt, charBy, charAt, isScalar, encode}
+use Rattle.chars.specs.Utf8.{byteAt, onBy, leads, leadOf, isTail, charBy, charAt, isScalar, encode}
 use Rattle.chars.specs.View.{Chars, end, ill, char, charsFrom, foldedAt}
 use Rattle.chars.specs.Screening.{wellFormed}
 use Rattle.chars.specs.declared.Read.{Read}
 use Rattle.chars.specs.declared.Read.the-variants.{End, Ill, Char}
 use Rattle.chars.specs.declared.Lead.{Lead}
 use Rattle.chars.specs.declared.Lead.the-variants.{Alone, Two, Three, Four, Never}
-use Rattle.chars.proofs.Utf8Laws.{Onward, onward, end-at, chosen, scalar-is, scalar-at-most, lawful, tail-bounds, two-in, three-in, four-in, char-is, char-not-end, char-not-ill}
+use Rattle.chars.proofs.Utf8Laws.{Onward, onward, end-at, chosen, scalar-is, scalar-at-most, lawful, two-in, three-in, four-in, char-is, char-not-end, char-not-ill}
 use Rattle.chars.proofs.ViewLaws.{chars-end, chars-ill, chars-char, folded-onward, folded-is}
 use Rattle.chars.proofs.EncodeLaws.{encode-one, encode-two, encode-three, encode-four}
 

@@ -1,12 +1,12 @@
 -- The one walk of `specs/inner/OneWalk.antt`: it gives what `invalidInput` says, and its turns.
 use Prim.Native.Nat.{ℕ}
 use mathlib.Core.Path.{_≡_, refl, sym, ap, _∙_}
-use mathlib.Core.Bool.{Bool, true, false, _||_}
-use mathlib.Core.List.{List, [], _∷_}
+use mathlib.Core.Bool.{true, _||_}
+use mathlib.Core.List.{List, []}
 use mathlib.Core.Logic.{⊎-elim}
 use lib.Dec.{eqb}
 use borrow.Author.Tests.{eqb-true}
-use Rattle.terms.specs.Terms.{if_then_else_, within, said}
+use Rattle.terms.specs.Terms.{within, said}
 use Rattle.terms.proofs.TestLaws.{or-either, within-true}
 use Rattle.terms.proofs.TableLaws.{in-match, word, isKey, isKeys, up, down}
 use Rattle.answers.specs.declared.Place.{Place}

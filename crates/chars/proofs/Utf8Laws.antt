@@ -14,7 +14,6 @@ use Rattle.answers.specs.declared.Place.{Place}
 use Rattle.answers.specs.declared.Ill.{Ill as Sequence}
 use Rattle.answers.specs.Caps.{cap}
 use Rattle.chars.specs.Utf8.{byteAt, onBy, leads, leadOf, isTail, illAt, charBy, charAt, isScalar}
-use Rattle.chars.specs.declared.Read.{Read}
 use Rattle.chars.specs.declared.Read.the-variants.{End, Ill, Char}
 use Rattle.chars.specs.declared.Lead.{Lead}
 use Rattle.chars.specs.declared.Lead.the-variants.{Alone, Two, Three, Four, Never}
@@ -287,11 +286,6 @@ module _ (s : List ℕ) (p : Place) where
       go true h u g e = leb-true _ _ h
       go false h true g e = let z : cap ≤ p .0 = leb-true cap (p .0) g in omega arith
       go false h false g e = absurd (by-end (leadOf (byteAt s p)) e)
-
-  -- nothing is read at the end
-  pub at-end : length s ≤ p .0 → charAt s p ≡ End
-  unfolding charAt
-  at-end h = rw (le-leb _ _ h)
 
   -- a byte below 0x80 is a character by itself
   pub ascii-at : p .0 < length s → p .0 < cap → byteAt s p < 0x80 → charAt s p ≡ Char (byteAt s p) (onBy 1 p)

@@ -19,7 +19,7 @@ use Rattle.chars.specs.Utf8.{byteAt, onBy, charAt, isScalar}
 use Rattle.chars.specs.View.{Chars, end, ill, char, placeOf, seenAt, seenBy, charsFrom, folded, foldedAt, foldedFrom}
 use Rattle.chars.specs.declared.Read.{Read}
 use Rattle.chars.specs.declared.Read.the-variants.{End, Ill, Char}
-use Rattle.chars.proofs.Utf8Laws.{Onward, onward, byte-in, scalar, scalar-low, four-at-most, char-is, char-not-end, char-not-ill, end-not-ill, ill-at, end-at, at-end, ascii-at}
+use Rattle.chars.proofs.Utf8Laws.{Onward, onward, byte-in, scalar, scalar-low, four-at-most, char-is, char-not-end, char-not-ill, end-not-ill, ill-at, end-at, ascii-at}
 
 -- a character that is read so goes on, and is a scalar
 abbrev Says : List ℕ → Place → ℕ → Place → Type 0
@@ -82,10 +82,6 @@ module _ (s : List ℕ) (p : Place) where
       go End h e = end-at s p k h
       go (Ill j) h e = absurd (end-not-ill (sym e))
       go (Char d m) h e = absurd (fold (eqb d 13 && eqb (byteAt s m) 10) d m e)
-
-  pub at-folded-end : length s ≤ p .0 → foldedAt s p ≡ End
-  unfolding foldedAt folded
-  at-folded-end h = rw (at-end s p h)
 
   -- a byte below 0x80 that is no carriage return is a character by itself
   pub folded-ascii-at : p .0 < length s → p .0 < cap → byteAt s p < 0x80 → (byteAt s p ≡ 13 → ⊥) → foldedAt s p ≡ Char (byteAt s p) (onBy 1 p)

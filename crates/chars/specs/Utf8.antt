@@ -3,7 +3,7 @@ use Prim.Native.Nat.{ℕ, _+_, _-_, _*_, _/_, _%_}
 use mathlib.Core.Bool.{Bool, _&&_, _||_}
 use mathlib.Core.List.{List, [], _∷_, _++_}
 use lib.ListN.{length, getD, drop}
-use lib.Dec.{leb, eqb}
+use lib.Dec.{leb}
 use Rattle.terms.specs.Terms.{if_then_else_, within, Row, _to_is_, said}
 use Rattle.answers.specs.declared.Place.{Place}
 use Rattle.answers.specs.Places.{place}

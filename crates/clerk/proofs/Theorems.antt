@@ -28,8 +28,7 @@ use Rattle.sheets.specs.Checks.{targetOf, sheetVerdict}
 use Rattle.sheets.specs.Edges.{ownerOf, ownersOf, targetsOf, edgesOf}
 use Rattle.sheets.proofs.EdgeLaws.{table-length, table-at}
 use Rattle.sheets.proofs.AcceptedLaws.{Accepts, accepts-of, target-in}
-use Rattle.clerk.specs.declared.Sorted.{Sorted}
-use Rattle.clerk.specs.Sorted.{answer, roomVerdict, placed, placedBy, sorted}
+use Rattle.clerk.specs.Sorted.{roomVerdict, placed, placedBy, sorted}
 
 module _ (ws bs : List ℕ) where
   even : length (ownersOf ws (listed ws)) ≡ length (targetsOf ws bs (listed ws))

@@ -1,4 +1,4 @@
 -- What the clerk answers to a sheet.
 pub mod Sorted
--- What only inner contracts cite.
+-- What no host's contract needs.
 pub mod inner

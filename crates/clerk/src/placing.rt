@@ -2,7 +2,7 @@
 use crate::State;
 ghost use mathlib.Core.Path.{_≡_};
 ghost use mathlib.Core.Bool.{false};
-ghost use Prim.Native.Nat.{ℕ, _<_, _≤_};
+ghost use Prim.Native.Nat.{_<_, _≤_};
 ghost use Rattle.terms.specs.Terms.{first, member};
 ghost use Rattle.graph.specs.Order.{edges, firstStuck};
 ghost use Rattle.clerk.specs.inner.State.{placedOf, free, Rows, Tracks, Placed, Blank, Ran};

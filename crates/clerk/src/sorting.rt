@@ -5,7 +5,7 @@ use crate::placing;
 use answers::Refusal;
 use answers::Verdict;
 ghost use mathlib.Core.Path.{_≡_};
-ghost use Prim.Native.Nat.{ℕ, _≤_};
+ghost use Prim.Native.Nat.{_≤_};
 ghost use lib.ListN.{length};
 ghost use Rattle.terms.specs.Terms.{over};
 ghost use Rattle.answers.specs.declared.Verdict.the-variants.{Refused};

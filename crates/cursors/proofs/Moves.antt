@@ -34,7 +34,7 @@ use denote.Plain.{uint-vals, uint-tells, uint-makes}
 use denote.Builtin.{u8, u32, SliceRefOf, RefMutOf}
 use denote.Ref.{RefT, MutRef, now, ptr-vals, mut-tells}
 use denote.Slice.{sliceVal, sliceTy, ShrSlice, slice-vals, shr-slice-tells, shr-slice-lawful, shr-slice-copy}
-use denote.Signature.{Signature, plain}
+use denote.Signature.{plain}
 use denote.Steps.{opens, closes, owned, facts, nothing}
 use denote.Struct.Steps.{spelt}
 use denote.Struct.Laws as LL
@@ -43,7 +43,7 @@ use denote.Triple.Call.{calls-at}
 use denote.Triple.Entry.{onEntry}
 use denote.Triple.Spec.{Meets, tripleOf}
 use denote.Triple.Table.{entered, cited}
-use denote.Triple.Walked.{Stays, stay-ref, stay-none, stay-none-slice, walkOf, goes-none, goes-none-slice, goes-ref, Walks, ends-at, walked, walk-meets}
+use denote.Triple.Walked.{Stays, stay-ref, stay-none, stay-none-slice, walkOf, goes-none, goes-none-slice, goes-ref, ends-at, walked, walk-meets}
 use denote.Exit.{yes}
 use denote.Triple.Clauses.{Ended, Clauses, closing, atExit, ensured, lasts}
 use Rattle.cursors.specs.declared.Cursor.{Cursor}

@@ -128,9 +128,6 @@ pub record Walked (l : Listing) (s : List ℕ) (o : ℕ) (from at : Place) (coun
   pub as-long : length after ≡ length before
   pub holds : count * rowWords ≤ length before → after ≡ over (allWords done) before
 
-length-over : (xs b : List ℕ) → length xs ≤ length b → length (over xs b) ≡ length b
-length-over xs b h = rw (length-append, length-drop) (omega arith)
-
 length-put : (at : ℕ) (xs b : List ℕ) → at + length xs ≤ length b → length (put at xs b) ≡ length b
 unfolding put
 length-put at xs b h = rw (length-append, length-take, length-append, length-drop) (omega arith)

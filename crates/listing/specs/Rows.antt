@@ -3,7 +3,6 @@ use Prim.Native.Nat.{ℕ}
 use mathlib.Core.Bool.{Bool, true, not}
 use mathlib.Core.List.{List, [], _∷_, _++_}
 use Rattle.terms.specs.Terms.{if_then_else_}
-use Rattle.answers.specs.declared.Place.{Place}
 use Rattle.answers.specs.declared.Span.{Span}
 use Rattle.answers.specs.declared.Refusal.{Refusal}
 use Rattle.tokens.specs.declared.Token.{Token}

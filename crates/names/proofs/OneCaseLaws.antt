@@ -3,7 +3,7 @@ use Prim.Native.Nat.{ℕ, zero, suc, _+_, _-_, _%_, _^_, _≤_, _<_, min}
 use mathlib.Core.Path.{_≡_, refl, sym, ap, _∙_}
 use mathlib.Core.Bool.{Bool, true, false, not, _&&_, _||_}
 use mathlib.Core.Logic.{_⊎_, inl, inr}
-use mathlib.Core.List.{List, [], _∷_}
+use mathlib.Core.List.{List, []}
 use native.Mathlib.Omega.{arith}
 use lib.ListN.{length, getD}
 use lib.Dec.{ltb, eqb}
@@ -15,8 +15,7 @@ use Rattle.answers.specs.declared.Position.{Position}
 use Rattle.answers.specs.declared.Verdict.the-variants.{Accepted}
 use Rattle.answers.specs.Places.{place}
 use Rattle.answers.specs.Caps.{cap}
-use Rattle.chars.specs.declared.Read.the-variants.{Char}
-use Rattle.chars.specs.Utf8.{byteAt, charAt}
+use Rattle.chars.specs.Utf8.{byteAt}
 use Rattle.chars.specs.View.{charsFrom}
 use Rattle.chars.proofs.Utf8Laws.{ascii-at}
 use Rattle.names.specs.declared.Letter.{Letter}

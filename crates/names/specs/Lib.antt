@@ -1,4 +1,4 @@
 -- Identifiers.
 pub mod Names
--- What only inner contracts cite.
+-- What no host's contract needs.
 pub mod inner

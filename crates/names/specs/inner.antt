@@ -1,3 +1,3 @@
--- What only inner contracts cite; no public contract needs it.
+-- What no host's contract needs.
 pub mod Runs
 pub mod OneCase

@@ -8,7 +8,6 @@ use answers::Span;
 use answers::Verdict;
 ghost use mathlib.Core.Path.{_≡_};
 ghost use Prim.Native.Nat.{_≤_};
-ghost use lib.ListN.{length};
 ghost use Rattle.answers.specs.declared.Place.{Place};
 ghost use Rattle.names.specs.inner.Runs.{Within};
 ghost use Rattle.names.specs.Names.{cut, spanVerdict, percentVerdict, namedBy, plainId, explicitId, handed};

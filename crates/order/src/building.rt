@@ -3,7 +3,6 @@ use crate::reading;
 use crate::saying;
 use crate::sheet;
 use answers::Refusal;
-ghost use Prim.Native.Nat.{_≤_};
 
 // Where it is not ok, what is wrong has been said.
 pub struct Built {

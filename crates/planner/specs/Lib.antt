@@ -1,4 +1,4 @@
 -- Load orders that somebody proposes: what such an order is, and the check of one.
 pub mod Proposed
--- What only inner contracts cite.
+-- What no host's contract needs.
 pub mod inner

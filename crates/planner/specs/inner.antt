@@ -1,2 +1,2 @@
--- What only inner contracts cite; no public contract needs it.
+-- What no host's contract needs.
 pub mod Seats

@@ -1,11 +1,10 @@
 -- 01, "Cases to reproduce": P1 to P14 as one table, and the one statement that every row holds. Each call is the C function's definition; each answer is its numbers.
 use Prim.Native.Nat.{ℕ, _*_}
 use mathlib.Core.Path.{_≡_, refl}
-use mathlib.Core.List.{List, [], _∷_, _++_, map}
+use mathlib.Core.List.{List, [], _∷_, map}
 use lib.ListN.{length, take}
 use Rattle.terms.specs.Terms.{first, count, member, sameBytes, ascii}
 use Rattle.answers.specs.Refusals.{told, toldOf}
-use Rattle.chars.specs.Utf8.{isScalar}
 use Rattle.strings.specs.Decoding.{decoded}
 use Rattle.strings.proofs.Cases as strings
 use Rattle.names.specs.Names.{plainId, explicitId}

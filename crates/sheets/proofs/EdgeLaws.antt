@@ -6,7 +6,7 @@ use mathlib.Core.List.{List, [], _∷_, _++_}
 use native.Mathlib.Nat.{zero-add, add-zero, add-suc, suc-add}
 use native.Mathlib.Numerals.{add-one}
 use native.Mathlib.Omega.{arith}
-use lib.ListN.{length, getD, set, take, drop, length-append, length-drop}
+use lib.ListN.{length, getD, set, take, drop}
 use lib.Seq.{drop-cons, set-at, append-snoc, take-at}
 use borrow.Author.Tests.{le-ltb, ltb-false}
 use Rattle.terms.specs.Terms.{first, over}
@@ -36,9 +36,6 @@ module _ (f : ℕ → ℕ) where
   pub over-none : (l : List ℕ) → l ≡ over (table f 0 0) l
   unfolding table
   over-none l = refl
-
-  pub over-length : (l : List ℕ) (k : ℕ) → k ≤ length l → length (over (table f 0 k) l) ≡ length l
-  over-length l k h = simp (length-append, length-drop, table-length) (omega arith)
 
   pub over-front : (l : List ℕ) (k : ℕ) → take k (over (table f 0 k) l) ≡ table f 0 k
   over-front l k = take-at (table f 0 k) (drop (length (table f 0 k)) l) k (table-length 0 k)

@@ -2,5 +2,5 @@
 pub mod Words
 pub mod Checks
 pub mod Edges
--- What only inner contracts cite.
+-- What no host's contract needs.
 pub mod inner

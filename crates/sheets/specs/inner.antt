@@ -1,4 +1,4 @@
--- What only inner contracts cite; no public contract needs it.
+-- What no host's contract needs.
 pub mod Bytes
 pub mod Resolving
 pub mod Asked

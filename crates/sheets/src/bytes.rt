@@ -2,9 +2,9 @@
 ghost use mathlib.Core.Path.{_≡_};
 ghost use mathlib.Core.Bool.{false};
 ghost use Prim.Native.Nat.{ℕ, _+_, _-_, _<_, _≤_};
-ghost use lib.ListN.{length, getD};
+ghost use lib.ListN.{length};
 ghost use lib.Dec.{eqb};
-ghost use Rattle.terms.specs.Terms.{if_then_else_, first};
+ghost use Rattle.terms.specs.Terms.{if_then_else_};
 ghost use Rattle.sheets.specs.inner.Bytes.{holds, byteFrom};
 
 // 1 where the byte is x, else what was seen before.

@@ -2,11 +2,10 @@
 use crate::bytes::byte_from;
 use crate::words::word;
 ghost use mathlib.Core.Path.{_≡_};
-ghost use Prim.Native.Nat.{ℕ, _+_, _≤_};
+ghost use Prim.Native.Nat.{_+_, _≤_};
 ghost use lib.ListN.{length};
-ghost use Rattle.terms.specs.Terms.{over};
 ghost use Rattle.sheets.specs.Words.{items, part};
-ghost use Rattle.sheets.specs.Checks.{found, firstRepeat};
+ghost use Rattle.sheets.specs.Checks.{found};
 ghost use Rattle.sheets.specs.inner.Asked.{Shaped};
 ghost use Rattle.sheets.specs.inner.Signatures.{signatureOf, signaturesOf, Signed};
 

@@ -1,9 +1,8 @@
 //! The words of a sheet, as sizes.
 ghost use mathlib.Core.Path.{_≡_};
-ghost use Prim.Native.Nat.{ℕ, _+_, _*_, _<_};
+ghost use Prim.Native.Nat.{_<_};
 ghost use lib.ListN.{length, getD};
 ghost use Rattle.sheets.specs.Words;
-ghost use Rattle.sheets.specs.Words.{nameAt, nameLength, firstEdge, edgeCount};
 
 pub(crate) fn word(sheet: &[u32], i: usize) -> usize
     requires { ⌜ i < length (now sheet) ⌝ }

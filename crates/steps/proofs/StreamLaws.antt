@@ -1,6 +1,6 @@
 -- The laws of the tokens from a place on: what stands at a place says how they begin, and they go on from the place behind it. No proof above these looks at the number of turns.
-use Prim.Native.Nat.{ℕ, zero, suc, _≤_, _<_, _-_}
-use mathlib.Core.Path.{_≡_, refl, sym, ap, _∙_}
+use Prim.Native.Nat.{ℕ, zero, suc, _<_, _-_}
+use mathlib.Core.Path.{_≡_, refl, ap}
 use mathlib.Core.List.{List}
 use native.Mathlib.Omega.{arith}
 use lib.ListN.{length}
@@ -11,7 +11,7 @@ use Rattle.tokens.specs.declared.Token.{Token}
 use Rattle.tokens.specs.declared.Raw.{Raw}
 use Rattle.tokens.specs.Tokens.{rawAt}
 use Rattle.tokens.proofs.TokenLaws.{raw-goes}
-use Rattle.steps.specs.Stream.{Tokens, done, stop, token, afterRaw, tokensBy, tokensFrom}
+use Rattle.steps.specs.Stream.{done, stop, token, afterRaw, tokensBy, tokensFrom}
 
 module _ (s : List ℕ) (o : ℕ) where
   -- any two numbers of turns that are enough see the same

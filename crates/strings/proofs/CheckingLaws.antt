@@ -1,9 +1,8 @@
 -- The check of the gathered bytes as they come (`specs/inner/Checking.antt`): it says of them what their reading says, and a whole character passes it.
-use Prim.Native.Nat.{ℕ, zero, suc, _≤_, _<_, _+_, _-_, _/_, _%_}
+use Prim.Native.Nat.{ℕ, zero, suc, _≤_, _<_, _+_, _-_}
 use mathlib.Core.Path.{_≡_, refl, sym, ap, _∙_}
 use mathlib.Core.Bool.{Bool, true, false, _&&_, _||_}
 use mathlib.Core.List.{List, [], _∷_, _++_, append-nil}
-use mathlib.Core.Logic.{_⊎_, inl, inr, ⊎-elim}
 use native.Mathlib.Omega.{arith}
 use native.Mathlib.Numerals.{add-one}
 use native.Mathlib.Nat.{add-zero}
@@ -12,13 +11,11 @@ use lib.ListN.{length, getD, drop, replicate, length-append, length-replicate, d
 use lib.Seq.{drop-cons, drop-at}
 use borrow.Author.Tests.{leb-true, leb-false, eqb-false}
 use Rattle.terms.specs.Terms.{if_then_else_, within}
-use Rattle.terms.proofs.TestLaws.{or-either, within-true, within-below, within-above}
+use Rattle.terms.proofs.TestLaws.{within-true, within-below, within-above}
 use Rattle.terms.proofs.TableLaws.{split}
-use Rattle.answers.specs.declared.Place.{Place}
-use Rattle.answers.specs.declared.Ill.{Ill as Sequence}
 use Rattle.answers.specs.Places.{place}
 use Rattle.answers.specs.Caps.{cap}
-use Rattle.chars.specs.Utf8.{byteAt, onBy, leadOf, isTail, illAt as ill-at, charBy, charAt, isScalar, encode}
+use Rattle.chars.specs.Utf8.{byteAt, leadOf, isTail, illAt as ill-at, charBy, charAt, isScalar, encode}
 use Rattle.chars.specs.View.{charsFrom}
 use Rattle.chars.specs.declared.Read.{Read}
 use Rattle.chars.specs.declared.Read.the-variants.{End, Ill as Broken, Char}
@@ -32,7 +29,7 @@ use Rattle.strings.specs.declared.Seen.{Seen}
 use Rattle.strings.specs.declared.Seen.the-variants.{Well, Part, Ill}
 use Rattle.strings.specs.declared.More.{More}
 use Rattle.strings.specs.declared.More.the-variants.{Nothing, One, Whole}
-use Rattle.strings.specs.Strings.{added, Judged, whole, illAt, firstIll, judged}
+use Rattle.strings.specs.Strings.{added, illAt, firstIll, judged}
 use Rattle.strings.specs.inner.Checking.{started, feed, feeds, pass, took, verdict, Fair, Proper}
 
 -- the check over a list: its two equations, and over two lists

@@ -1,11 +1,11 @@
 -- Decoding in the terms of its two walks: what a span spells by what the string rule answers, and what is answered then.
 use Prim.Native.Nat.{ℕ, _≤_, _<_, _+_, _-_}
-use mathlib.Core.Path.{_≡_, refl, sym, ap, _∙_}
+use mathlib.Core.Path.{_≡_, refl, ap, _∙_}
 use mathlib.Core.Bool.{Bool, true, false, _&&_}
-use mathlib.Core.List.{List, [], _++_}
+use mathlib.Core.List.{List, []}
 use native.Mathlib.Omega.{arith}
 use lib.Dec.{leb, eqb}
-use lib.ListN.{length, drop}
+use lib.ListN.{length}
 use borrow.Author.Tests.{le-leb, lt-leb, leb-true, eq-eqb, ne-eqb, eqb-true}
 use Rattle.terms.specs.Terms.{if_then_else_}
 use Rattle.terms.proofs.TestLaws.{and-both}
@@ -22,12 +22,11 @@ use Rattle.chars.specs.View.{Chars, placeOf, foldedFrom}
 use Rattle.chars.proofs.Utf8Laws.{byte-in}
 use Rattle.strings.specs.declared.Inside.the-variants.{Plain}
 use Rattle.strings.specs.declared.Literal.the-variants.{Closed, Refused as Denied}
-use Rattle.strings.specs.declared.Decoded.{Decoded}
 use Rattle.strings.specs.declared.Decoded.the-variants.{Value, Refused}
 use Rattle.strings.specs.Strings.{Gathered, bytes, refused, gather, Judged, whole, illAt, judged, closedBy, literalOf, stringLiteral}
 use Rattle.strings.specs.Decoding.{Spelt, spelt, none, wellSpelt, endingAt, spelling, storing, decodedBy, decoded}
 use Rattle.strings.specs.inner.Writing.{measured, Roomy, filled}
-use Rattle.strings.proofs.StringLaws.{Accepted, accepted}
+use Rattle.strings.proofs.StringLaws.{accepted}
 
 -- what a span spells
 module _ (s : List ℕ) (o : ℕ) (span : Span) where

@@ -2,17 +2,17 @@
 use Prim.Native.Nat.{ℕ, zero, suc, _≤_, _<_, _+_, _-_}
 use mathlib.Core.Path.{_≡_, refl, sym, ap, _∙_}
 use mathlib.Core.Bool.{Bool, true, false, _||_}
-use mathlib.Core.List.{List, [], _∷_, _++_, append-nil}
+use mathlib.Core.List.{List, [], _++_}
 use mathlib.Core.Logic.{⊎-elim}
 use native.Mathlib.Omega.{arith}
 use lib.Dec.{ltb, eqb}
 use lib.ListN.{length, getD, take, drop, length-append, length-take, length-drop, take-append-drop}
 use lib.Seq.{paste, take-paste, drop-paste, length-paste, length-take-le, take-length, drop-drop}
-use borrow.Author.Tests.{ltb-false, eqb-true, eqb-false, eq-eqb, ne-eqb}
-use Rattle.terms.specs.Terms.{if_then_else_, first}
+use borrow.Author.Tests.{ltb-false, eqb-true, eqb-false, ne-eqb}
+use Rattle.terms.specs.Terms.{first}
 use Rattle.terms.proofs.TestLaws.{or-neither}
 use Rattle.terms.proofs.TableLaws.{split}
-use Rattle.terms.proofs.FirstLaws.{first-hit, first-skip, first-from, first-le}
+use Rattle.terms.proofs.FirstLaws.{first-hit, first-skip, first-from}
 use Rattle.answers.specs.declared.Place.{Place}
 use Rattle.answers.specs.declared.Refusal.{Refusal}
 use Rattle.answers.specs.declared.Refusal.the-variants.{InvalidStringElement}
@@ -24,19 +24,17 @@ use Rattle.chars.proofs.Utf8Laws.{onward}
 use Rattle.chars.proofs.ViewLaws.{folded-is, folded-onward}
 use Rattle.chars.proofs.EncodeLaws.{encode-tails}
 use Rattle.chars.proofs.RoundTrip.{read-width, read-byte, ascii-byte}
-use Rattle.strings.specs.declared.Inside.{Inside}
-use Rattle.strings.specs.declared.Inside.the-variants.{Plain, Escape}
+use Rattle.strings.specs.declared.Inside.the-variants.{Plain}
 use Rattle.strings.specs.declared.More.{More}
-use Rattle.strings.specs.declared.More.the-variants.{Nothing, Whole}
 use Rattle.strings.specs.declared.Turn.{Turn}
-use Rattle.strings.specs.declared.Turn.the-variants.{On, Close, Fail}
+use Rattle.strings.specs.declared.Turn.the-variants.{Close, Fail}
 use Rattle.strings.specs.declared.Element.the-variants.{Adds, Close as Closes, Fail as Fails}
 use Rattle.strings.specs.Strings.{plainTurn, turnOf, added, Gathered, bytes, refused, gather}
 use Rattle.strings.specs.inner.Walking.{Comes, Leads, Raw}
 use Rattle.strings.specs.inner.Writing.{Roomy, filled, isMark, unmarked, copied, stored}
 use Rattle.strings.proofs.TurnLaws.{turn-fail}
 use Rattle.strings.proofs.RawLaws.{Bare, raw-none, raw-one, raw-join}
-use Rattle.strings.proofs.StringLaws.{not-refused, accepted-char, Ended, ended}
+use Rattle.strings.proofs.StringLaws.{not-refused, accepted-char, ended}
 
 module _ (s : List ℕ) where
   abbrev mark : ℕ → Bool

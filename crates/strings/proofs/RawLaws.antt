@@ -1,22 +1,22 @@
 -- Raw characters: a run of them equals as many plain turns (`Raw` of `specs/inner/Walking.antt`).
 use Prim.Native.Nat.{ℕ, zero, suc, _≤_, _<_, _+_, _-_}
-use mathlib.Core.Path.{_≡_, refl, sym, ap, subst, _∙_}
-use mathlib.Core.Bool.{Bool, true, false, not, _&&_, _||_}
-use mathlib.Core.List.{List, [], _∷_, _++_, append-nil}
+use mathlib.Core.Path.{_≡_, sym, ap, subst, _∙_}
+use mathlib.Core.Bool.{Bool, true, false, not, _||_}
+use mathlib.Core.List.{List, [], _++_}
 use native.Mathlib.Omega.{arith}
 use native.Mathlib.Nat.{add-zero, add-assoc}
-use lib.Dec.{leb, ltb, eqb}
-use lib.ListN.{length, getD, take, drop, length-take, length-drop}
+use lib.Dec.{ltb, eqb}
+use lib.ListN.{length, getD, take, drop, length-take}
 use lib.Seq.{take-add, drop-drop}
 use borrow.Author.Tests.{le-ltb, ne-eqb, eqb-false, not-true, not-false}
-use Rattle.terms.specs.Terms.{if_then_else_, within, first}
+use Rattle.terms.specs.Terms.{within, first}
 use Rattle.terms.proofs.TestLaws.{and-both, or-neither, within-true}
 use Rattle.terms.proofs.TableLaws.{split}
 use Rattle.terms.proofs.FirstLaws.{none-before, first-le, first-from}
 use Rattle.answers.specs.declared.Place.{Place}
 use Rattle.answers.specs.Places.{place}
 use Rattle.answers.specs.Caps.{cap}
-use Rattle.chars.specs.Utf8.{byteAt, onBy, charAt, isScalar, encode}
+use Rattle.chars.specs.Utf8.{byteAt, onBy, charAt, encode}
 use Rattle.chars.specs.View.{foldedAt}
 use Rattle.chars.specs.declared.Read.the-variants.{Char}
 use Rattle.chars.proofs.Utf8Laws.{onward, scalar, four-at-most, ascii-at}
@@ -30,7 +30,7 @@ use Rattle.strings.specs.Strings.{plainTurn, turnOf, added}
 use Rattle.strings.specs.inner.Checking.{feeds, pass, Fair}
 use Rattle.strings.specs.inner.Walking.{Comes, isBare, bareEnd, Raw}
 use Rattle.strings.proofs.CheckingLaws.{feeds-none, feeds-append, passes, pass-twice, pass-fair}
-use Rattle.strings.proofs.TurnLaws.{Went, went, comes-none, comes-on}
+use Rattle.strings.proofs.TurnLaws.{went, comes-none, comes-on}
 
 -- a character that a string holds as it stands
 pub record Bare (c : ℕ) : Type 0 where

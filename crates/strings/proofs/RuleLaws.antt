@@ -1,6 +1,6 @@
 -- The loop of the string rule: what it has come to, its steps, and what it answers.
 use Prim.Native.Nat.{ℕ, _≤_, _<_, _+_}
-use mathlib.Core.Path.{_≡_, refl, sym, ap, _∙_}
+use mathlib.Core.Path.{_≡_, refl, ap, _∙_}
 use mathlib.Core.List.{List, [], _++_}
 use native.Mathlib.Omega.{arith}
 use native.Mathlib.Nat.{zero-add}
@@ -10,7 +10,7 @@ use Rattle.answers.specs.declared.Position.{Position}
 use Rattle.answers.specs.declared.Refusal.{Refusal}
 use Rattle.answers.specs.Caps.{cap}
 use Rattle.chars.specs.Utf8.{onBy}
-use Rattle.chars.specs.View.{placeOf, foldedFrom}
+use Rattle.chars.specs.View.{foldedFrom}
 use Rattle.chars.proofs.ViewLaws.{folded-place}
 use Rattle.strings.specs.declared.Inside.the-variants.{Plain}
 use Rattle.strings.specs.declared.More.{More}

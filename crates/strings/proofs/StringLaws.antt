@@ -1,12 +1,11 @@
 -- What the string rule yields, for the rooms above: a string that is accepted ends beyond its start and within the text, and has no more bytes than lie between.
 use Prim.Native.Nat.{ℕ, zero, suc, _≤_, _<_, _+_, _-_}
 use mathlib.Core.Path.{_≡_, refl, sym, ap, _∙_}
-use mathlib.Core.List.{List, [], _∷_, _++_}
+use mathlib.Core.List.{List, [], _++_}
 use native.Mathlib.Omega.{arith}
 use lib.ListN.{length, length-append}
 use Rattle.answers.specs.declared.Place.{Place}
 use Rattle.answers.specs.declared.Position.{Position}
-use Rattle.answers.specs.declared.Ill.{Ill as Sequence}
 use Rattle.answers.specs.declared.Refusal.{Refusal}
 use Rattle.answers.specs.Caps.{cap}
 use Rattle.chars.specs.View.{Chars, placeOf, foldedAt, foldedFrom}
@@ -23,7 +22,7 @@ use Rattle.strings.specs.declared.Literal.{Literal}
 use Rattle.strings.specs.declared.Literal.the-variants.{Closed, Refused}
 use Rattle.strings.specs.Strings.{turnOf, added, Gathered, bytes, refused, gather, Judged, whole, illAt, judged, closedBy, literalOf, stringLiteral}
 use Rattle.strings.specs.inner.Walking.{Sound, begun}
-use Rattle.strings.proofs.TurnLaws.{turn-on, turn-close, turn-fail, Went, went}
+use Rattle.strings.proofs.TurnLaws.{turn-on, turn-close, turn-fail, went}
 
 -- bytes are no refusal
 pub not-refused : {f : Refusal} {g : List ℕ} {v : Chars} → refused f ≡ bytes g v → ⊥

@@ -1,22 +1,17 @@
 -- The second walk of decoding: what is stored (`specs/inner/Writing.antt`), and that unmarked bytes of an accepted string are raw characters.
 use Prim.Native.Nat.{ℕ, zero, suc, _≤_, _<_, _+_, _-_}
-use mathlib.Core.Path.{_≡_, refl, sym, ap, ap₂, _∙_}
-use mathlib.Core.Bool.{Bool, true, false, _&&_, _||_}
+use mathlib.Core.Path.{_≡_, refl, ap, _∙_}
+use mathlib.Core.Bool.{Bool, true, false}
 use mathlib.Core.List.{List, [], _∷_, _++_, append-nil, append-assoc}
-use mathlib.Core.Logic.{_⊎_, inl, inr, ⊎-elim}
 use native.Mathlib.Omega.{arith}
-use native.Mathlib.Nat.{add-zero, add-assoc}
-use lib.Dec.{leb, eqb}
-use lib.ListN.{length, getD, set, take, drop, length-append, length-take, length-drop, drop-of-length-le}
-use lib.Seq.{paste, paste-zero, paste-suc, length-paste, take-paste, drop-paste, take-length, take-all, take-add, drop-drop, getD-drop, sets-eq}
-use borrow.Author.Tests.{le-leb, eq-eqb, ne-eqb, eqb-true, eqb-false}
-use Rattle.terms.specs.Terms.{if_then_else_, first}
-use Rattle.terms.proofs.TestLaws.{or-either, or-neither, clash}
-use Rattle.terms.proofs.FirstLaws.{first-start, first-miss, first-hit, first-end, first-from, first-le}
+use lib.Dec.{leb}
+use lib.ListN.{length, getD, set, take, drop, length-drop, drop-of-length-le}
+use lib.Seq.{paste, paste-zero, paste-suc, length-paste, take-length, take-all, drop-drop, getD-drop, sets-eq}
+use borrow.Author.Tests.{le-leb}
+use Rattle.terms.specs.Terms.{first}
+use Rattle.terms.proofs.FirstLaws.{first-miss, first-hit, first-end, first-from}
 use Rattle.answers.specs.declared.Place.{Place}
-use Rattle.answers.specs.Places.{place}
-use Rattle.answers.specs.Caps.{cap}
-use Rattle.chars.specs.Utf8.{byteAt, onBy, charAt, isScalar, encode, encoded}
+use Rattle.chars.specs.Utf8.{isScalar, encode, encoded}
 use Rattle.strings.specs.declared.More.{More}
 use Rattle.strings.specs.declared.More.the-variants.{Nothing, One, Whole}
 use Rattle.strings.specs.Strings.{added}

@@ -9,11 +9,10 @@ use Rattle.answers.specs.declared.Position.{Position}
 use Rattle.answers.specs.declared.Span.{Span}
 use Rattle.answers.specs.declared.Verdict.{Verdict}
 use Rattle.answers.specs.declared.Verdict.the-variants.{Accepted, Refused as Refused′}
-use Rattle.answers.specs.declared.Refusal.{Refusal}
 use Rattle.answers.specs.declared.Refusal.the-variants.{BadSpan, NoRoom}
 use Rattle.answers.specs.Places.{place}
 use Rattle.answers.specs.Caps.{textVerdict}
-use Rattle.chars.specs.Utf8.{byteAt, onBy}
+use Rattle.chars.specs.Utf8.{byteAt}
 use Rattle.chars.specs.View.{placeOf, foldedFrom}
 use Rattle.strings.specs.declared.Inside.the-variants.{Plain}
 use Rattle.strings.specs.declared.Decoded.{Decoded}

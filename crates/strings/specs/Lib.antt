@@ -1,5 +1,5 @@
 -- The string rule, and decoding.
 pub mod Strings
 pub mod Decoding
--- What only inner contracts cite.
+-- What no host's contract needs.
 pub mod inner

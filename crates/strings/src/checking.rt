@@ -3,8 +3,6 @@ use crate::More;
 use crate::Seen;
 use chars::Lead;
 ghost use mathlib.Core.Path.{_≡_};
-ghost use lib.ListN.{length};
-ghost use Rattle.strings.specs.Strings.{added};
 ghost use Rattle.strings.specs.inner.Checking;
 ghost use Rattle.strings.specs.inner.Checking.{feed, pass, Fair};
 

@@ -1,13 +1,13 @@
 -- What a loop that counts needs of `count`, and what a count or a membership says.
 use Prim.Native.Nat.{ℕ, zero, suc, _+_, _≤_, _<_}
-use mathlib.Core.Path.{_≡_, refl, sym, _∙_}
+use mathlib.Core.Path.{_≡_, refl, sym}
 use mathlib.Core.Bool.{Bool, true, false, _||_, or-true, or-false, or-assoc, false≢true}
 use mathlib.Core.List.{List, [], _∷_, _++_, List·Memᴰ, List·Memᴰ·head, List·Memᴰ·tail, List·Memᴰ·not-nil, List·Memᴰ·cases-cons}
 use mathlib.Core.Logic.{_⊎_, inl, inr}
 use native.Mathlib.Numerals.{add-one}
 use native.Mathlib.Omega.{arith}
-use lib.ListN.{length, getD, take, drop, length-take, length-drop, drop-of-length-le}
-use lib.Seq.{drop-cons, getD-take, getD-drop}
+use lib.ListN.{length, getD, take, drop, drop-of-length-le}
+use lib.Seq.{drop-cons}
 use lib.Dec.{eqb}
 use borrow.Author.Tests.{eq-eqb, eqb-true}
 use Rattle.terms.specs.Terms.{bit, count, member}
@@ -56,33 +56,6 @@ module _ {A : Type 0} (test : A → Bool) where
           → (1 ≤ count test ys → (x : A) × List·Memᴰ x ys × (test x ≡ true)) → (x : A) × List·Memᴰ x (y ∷ ys) × (test x ≡ true)
       go true e q ih = (y, List·Memᴰ·head refl, e)
       go false e q ih = let r = ih (omega arith) in (r .0, List·Memᴰ·tail (r .1), r .2)
-
--- what stands at an index is an entry
-pub entry-mem : {A : Type 0} (xs : List A) (k : ℕ) (d : A) → k < length xs → List·Memᴰ (getD xs k d) xs
-entry-mem [] k d h = absurd (omega arith)
-entry-mem (x ∷ xs) zero d h = List·Memᴰ·head refl
-entry-mem (x ∷ xs) (suc k) d h = List·Memᴰ·tail (entry-mem xs k d (omega arith))
-
--- the m entries from k on, counted: the entry at i of them and those after it, nothing after the last, and what a count of 0 says of each
-module _ {A : Type 0} (test : A → Bool) (xs : List A) (k m : ℕ) (d : A) (fits : k + m ≤ length xs) where
-  part-length : length (take m (drop k xs)) ≡ m
-  part-length = simp (length-take, length-drop) (omega arith)
-
-  part-entry : (i : ℕ) → i < m → getD (take m (drop k xs)) i d ≡ getD xs (k + i) d
-  part-entry i l = rw (getD-take, getD-drop)
-
-  pub count-part-at : (i : ℕ) → i < m
-      → count test (drop i (take m (drop k xs))) ≡ bit (test (getD xs (k + i) d)) + count test (drop (i + 1) (take m (drop k xs)))
-  count-part-at i l = rw (← part-entry i l) (count-at test (take m (drop k xs)) i d (omega (arith, part-length)))
-
-  pub count-part-end : count test (drop m (take m (drop k xs))) ≡ 0
-  count-part-end = count-end test (take m (drop k xs)) m (omega (arith, part-length))
-
-  pub count-part-none : count test (take m (drop k xs)) ≡ 0 → (i : ℕ) → i < m → test (getD xs (k + i) d) ≡ false
-  count-part-none e i l = rw (← part-entry i l) (count-none-at (take m (drop k xs)) i e (omega (arith, part-length)))
-    where
-      count-none-at : (ys : List A) (j : ℕ) → count test ys ≡ 0 → j < length ys → test (getD ys j d) ≡ false
-      count-none-at ys j z h = count-none test ys z (getD ys j d) (entry-mem ys j d h)
 
 -- where a test is the sum of two others at each entry, so are the counts
 pub count-sum : {A : Type 0} (p q r : A → Bool) (xs : List A) → ((x : A) → bit (p x) ≡ bit (q x) + bit (r x))

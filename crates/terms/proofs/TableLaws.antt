@@ -1,6 +1,6 @@
 -- A table's word on a whole range is computed, and holds of each number in it.
 use Prim.Native.Nat.{ℕ, zero, suc, _≤_, _<_, _+_, _-_}
-use mathlib.Core.Path.{_≡_, refl, sym, ap, _∙_}
+use mathlib.Core.Path.{_≡_, refl, _∙_}
 use mathlib.Core.Bool.{Bool, true, false, _&&_, _||_, false≢true}
 use mathlib.Core.List.{List, [], _∷_}
 use mathlib.Core.Option.{Option, none, some}
@@ -120,13 +120,6 @@ pub in-match : {A : Type 0} (kss : List (List ℕ)) (low high x : ℕ) → Rest 
     → (rows : List (Row A)) (other v : A) → word kss (up kss 64 low) (down kss 64 high) rows other ≡ some v → said rows other x ≡ v
 in-match kss low high x r f g rows other v e =
     in-range kss (up kss 64 low) (down kss 64 high) x r (up-le kss 64 low x r f) (le-down kss 64 high x r g) rows other v e
-
--- and where nothing is left of the range
-pub in-none : (kss : List (List ℕ)) (low high x : ℕ) → Rest (Unit {0}) kss x → low ≤ x → x ≤ high → ltb (down kss 64 high) (up kss 64 low) ≡ true → ⊥
-in-none kss low high x r f g e =
-    let a = up-le kss 64 low x r f in
-    let b = le-down kss 64 high x r g in
-    let d = ltb-true (down kss 64 high) (up kss 64 low) e in omega arith
 
 -- below or above: for a range that goes over several rows
 pub split : {P : Type 0} (k x : ℕ) → (x ≤ k → P) → (k < x → P) → P

@@ -5,7 +5,7 @@ use mathlib.Core.Bool.{Bool, true, false, _&&_, _||_, false≢true}
 use mathlib.Core.Logic.{_⊎_, inl, inr}
 use lib.Dec.{leb}
 use borrow.Author.Tests.{le-leb, lt-leb, leb-true}
-use Rattle.terms.specs.Terms.{if_then_else_, within}
+use Rattle.terms.specs.Terms.{within}
 
 -- a conjunction that holds has both parts, a disjunction that holds one of them
 pub and-both : (s t : Bool) → (s && t) ≡ true → (s ≡ true) × (t ≡ true)

@@ -1,18 +1,17 @@
 -- A comment's turns, the bytes that it passes over at once, and where it ends.
-use Prim.Native.Nat.{ℕ, _+_, _-_, _≤_, _<_}
+use Prim.Native.Nat.{ℕ, _+_, _-_, _≤_}
 use mathlib.Core.Path.{_≡_, refl, sym, ap, _∙_}
 use mathlib.Core.Bool.{Bool, true, false}
 use mathlib.Core.List.{List}
 use native.Mathlib.Omega.{arith}
 use lib.ListN.{length}
 use lib.Dec.{eqb}
-use borrow.Author.Tests.{eq-eqb, ne-eqb, eqb-true, eqb-false}
+use borrow.Author.Tests.{eq-eqb, ne-eqb, eqb-false}
 use Rattle.terms.specs.Terms.{if_then_else_}
 use Rattle.answers.specs.declared.Place.{Place}
 use Rattle.answers.specs.declared.Position.{Position}
 use Rattle.answers.specs.declared.Ill.{Ill as Sequence}
 use Rattle.answers.specs.declared.Refusal.the-variants.{IllFormed, UnterminatedComment}
-use Rattle.answers.specs.Caps.{cap}
 use Rattle.chars.specs.declared.Read.the-variants.{End, Ill, Char}
 use Rattle.chars.specs.Utf8.{byteAt, onBy}
 use Rattle.chars.specs.View.{Chars, end, ill, char, placeOf, foldedAt, foldedFrom}
@@ -20,10 +19,9 @@ use Rattle.chars.specs.inner.Plain.{plainEnd}
 use Rattle.chars.proofs.ViewLaws.{Ordered, folded-end, folded-ill, folded-char, folded-place, folded-ordered, ordered-place}
 use Rattle.chars.proofs.PlainLaws.{Passes, plain-beyond, plain-folded}
 use Rattle.tokens.specs.declared.Block.{Block}
-use Rattle.tokens.specs.declared.Ran.{Ran}
 use Rattle.tokens.specs.declared.Ran.the-variants.{To, Stopped}
 use Rattle.tokens.specs.Comments.{lineComment, seen, blockTurn, blockOn, blockComment}
-use Rattle.tokens.specs.inner.Runs.{passedBy, depthOf, Sound}
+use Rattle.tokens.specs.inner.Runs.{passedBy, depthOf}
 use Rattle.tokens.proofs.RunLaws.{to-is, stopped-not}
 
 module _ (s : List ℕ) (p : Place) where

@@ -18,7 +18,7 @@ use Rattle.chars.specs.declared.Read.{Read}
 use Rattle.chars.specs.declared.Read.the-variants.{End as Ended, Ill, Char}
 use Rattle.chars.specs.View.{Chars, end, ill, char, placeOf, foldedAt, foldedFrom}
 use Rattle.chars.specs.Classes.{keylikeStart, keylikeContinue}
-use Rattle.chars.proofs.ViewLaws.{folded-end, folded-ill, folded-char, folded-place, folded-onward, folded-end-at, at-folded-end}
+use Rattle.chars.proofs.ViewLaws.{folded-end, folded-ill, folded-char, folded-place, folded-onward, folded-end-at}
 use Rattle.chars.proofs.LocalLaws.{Alike, view-alike}
 use Rattle.strings.specs.declared.Literal.{Literal}
 use Rattle.strings.specs.declared.Literal.the-variants.{Closed, Refused as Refused′}
@@ -210,11 +210,6 @@ module _ (s : List ℕ) (o : ℕ) (p : Place) where
       go Ended h = folded-end-at s p k h
       go (Ill i) h = absurd (by p (Not (Refusal.IllFormed i)) (ap (rawOf s o) (sym (folded-ill s p i h)) ∙ e))
       go (Char c m) h = absurd (by p (lexedBy (ruleOf c) s o p c (foldedFrom s m)) (ap (rawOf s o) (sym (folded-char s p c m h)) ∙ e))
-
-  -- at or past the end, the text ends
-  pub raw-at-end : length s ≤ p .0 → rawAt s o p ≡ End
-  unfolding rawAt rawOf
-  raw-at-end h = rw (folded-end s p (at-folded-end s p h))
 
 -- a token depends only on the text from its place on
 pub raw-alike : (s t : List ℕ) (o : ℕ) (p : Place) → Alike p s t → rawAt s o p ≡ rawAt t o p

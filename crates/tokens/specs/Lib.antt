@@ -3,5 +3,5 @@ pub mod Kinds
 pub mod Keywords
 pub mod Comments
 pub mod Tokens
--- What only inner contracts cite.
+-- What no host's contract needs.
 pub mod inner

@@ -2,9 +2,7 @@
 use mathlib.Core.List.{List}
 use Prim.Native.Nat.{ℕ, _≤_}
 use lib.ListN.{length}
-use Rattle.answers.specs.declared.Place.{Place}
 use Rattle.chars.specs.declared.AsciiSet.{AsciiSet}
-use Rattle.chars.specs.inner.Runs.{runEnd}
 use Rattle.names.specs.declared.Part.{Part}
 use Rattle.names.specs.declared.Named.{Named}
 

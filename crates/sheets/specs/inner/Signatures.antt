@@ -3,7 +3,7 @@
 use Prim.Native.Nat.{ℕ, _+_, _*_, _%_, _≤_, _<_}
 use mathlib.Core.Path.{_≡_}
 use mathlib.Core.List.{List, [], _∷_}
-use lib.ListN.{length, getD, take}
+use lib.ListN.{length, getD}
 use Rattle.sheets.specs.Words.{items, nameOf, part}
 use Rattle.terms.specs.Terms.{over}
 use Rattle.sheets.specs.Checks.{found, firstRepeat}

@@ -1,4 +1,4 @@
-use mathlib.Core.Path.{_≡_, sym, _∙_}
+use mathlib.Core.Path.{sym, _∙_}
 use native.Mathlib.Omega.{arith}
 use Rattle.chars.specs.Utf8.{charBy}
 use Rattle.chars.proofs.Utf8Laws.{ThreeIn, three-in}

@@ -1,12 +1,10 @@
-use Prim.Native.Nat.{_-_, _≤_, max, min}
+use Prim.Native.Nat.{_-_, _≤_, max}
 use mathlib.Core.Path.{_≡_, refl, sym, ap, _∙_}
-use mathlib.Core.Bool.{true, false}
 use native.Mathlib.Omega.{arith}
-use lib.ListN.{length, getD}
 use Rattle.terms.specs.Terms.{first}
 use Rattle.terms.proofs.FirstLaws.{first-miss, first-hit, first-end}
 use Rattle.answers.specs.Places.{place}
-use Rattle.chars.specs.inner.Runs.{stopsAt, inSet, runEnd}
+use Rattle.chars.specs.inner.Runs.{stopsAt, runEnd}
 use borrow.Author.Needs.{needs}
 use Rattle.chars.proofs.runs.run_end.Statement.{statement}
 use Rattle.chars.proofs.runs.run_end.Tie as tie

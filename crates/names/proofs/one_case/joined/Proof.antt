@@ -1,5 +1,4 @@
-use Prim.Native.Nat.{ℕ, _+_, _-_, _≤_, _<_}
-use mathlib.Core.Path.{_≡_}
+use Prim.Native.Nat.{_+_, _-_, _≤_, _<_}
 use mathlib.Core.Bool.{false≢true}
 use native.Mathlib.Omega.{arith}
 use Rattle.names.specs.inner.OneCase.{Follow}

@@ -1,8 +1,7 @@
 use Prim.Native.Nat.{_-_, _≤_}
-use mathlib.Core.Path.{_≡_, refl, sym, ap, _∙_}
+use mathlib.Core.Path.{_≡_, refl, sym, _∙_}
 use native.Mathlib.Omega.{arith}
 use lib.ListN.{length}
-use Rattle.answers.specs.declared.Place.{Place}
 use Rattle.chars.specs.declared.Read.the-variants.{Char}
 use Rattle.chars.specs.Utf8.{charAt}
 use Rattle.chars.specs.View.{charsFrom}

@@ -2,7 +2,6 @@ use Prim.Native.Nat.{_≤_}
 use native.Mathlib.Omega.{arith}
 use lib.ListN.{length}
 use Rattle.names.specs.Names.{handed}
-use Rattle.names.specs.inner.Runs.{Within}
 use borrow.Author.Needs.{needs}
 use Rattle.names.proofs.spans.hand.Statement.{statement}
 use Rattle.names.proofs.spans.hand.Tie as tie

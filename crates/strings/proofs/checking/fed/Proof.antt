@@ -1,6 +1,6 @@
 use native.Mathlib.Omega.{arith}
 use borrow.Author.Tests.{eq-eqb, ne-eqb}
-use Rattle.strings.specs.inner.Checking.{feed, Fair}
+use Rattle.strings.specs.inner.Checking.{feed}
 use borrow.Author.Needs.{needs}
 use Rattle.strings.proofs.checking.fed.Statement.{statement}
 use Rattle.strings.proofs.checking.fed.Tie as tie

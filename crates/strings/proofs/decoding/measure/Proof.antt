@@ -1,7 +1,6 @@
 use mathlib.Core.Path.{_≡_, sym, _∙_}
-use Prim.Native.Nat.{_-_, _≤_}
+use Prim.Native.Nat.{_-_}
 use native.Mathlib.Omega.{arith}
-use lib.ListN.{length}
 use Rattle.answers.specs.Places.{place}
 use Rattle.chars.specs.Utf8.{byteAt}
 use Rattle.chars.proofs.Utf8Laws.{byte-in}

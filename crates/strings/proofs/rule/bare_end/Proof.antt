@@ -1,5 +1,5 @@
 use mathlib.Core.Path.{_≡_, refl, sym, _∙_}
-use mathlib.Core.Bool.{not, true, false}
+use mathlib.Core.Bool.{not}
 use Prim.Native.Nat.{_-_}
 use lib.ListN.{getD}
 use Rattle.terms.specs.Terms.{first}

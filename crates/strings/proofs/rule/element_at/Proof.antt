@@ -1,5 +1,3 @@
-use Prim.Native.Nat.{_<_}
-use Rattle.answers.specs.Caps.{cap}
 use Rattle.chars.proofs.ViewLaws.{folded-onward}
 use Rattle.strings.specs.Strings.{turnOf, plainTurn, added}
 use mathlib.Core.Path.{_≡_, refl, sym, _∙_}

@@ -1,14 +1,13 @@
 use mathlib.Core.Path.{ap}
 use Rattle.answers.specs.declared.Place.{Place}
 use borrow.Author.Needs.{needs}
-use mathlib.Core.Path.{_≡_, sym, _∙_}
+use mathlib.Core.Path.{sym, _∙_}
 use mathlib.Core.Logic.{⊎-elim}
 use Prim.Native.Nat.{_-_, _≤_}
 use native.Mathlib.Omega.{arith}
 use lib.ListN.{length}
 use Rattle.strings.specs.declared.Inside.the-variants.{Plain}
-use Rattle.strings.specs.declared.Element.the-variants.{Adds, Close, Fail}
-use Rattle.strings.specs.Strings.{added}
+use Rattle.strings.specs.declared.Element.the-variants.{Adds}
 use Rattle.strings.specs.inner.Walking.{Leads}
 use Rattle.strings.proofs.TurnLaws.{size-most}
 use Rattle.strings.proofs.RuleLaws.{Reached, reached-none, reached-fair, reached-paid, reached-run, reached-adds, reached-close, reached-fail}

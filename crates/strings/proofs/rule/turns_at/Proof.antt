@@ -7,7 +7,7 @@ use Rattle.chars.specs.View.{foldedAt}
 use Rattle.chars.specs.declared.Read.the-variants.{Char}
 use Rattle.strings.specs.declared.Element.the-variants.{Adds, Close, Fail}
 use Rattle.strings.specs.Strings.{added}
-use Rattle.strings.specs.inner.Walking.{Sound, Comes, Beyond}
+use Rattle.strings.specs.inner.Walking.{Sound, Comes}
 use Rattle.strings.proofs.TurnLaws.{expected-stands, expected-fails, turn-close, turn-fail, Went, went, read-on, comes-none, comes-on, leads-too, leads-back}
 use borrow.Author.Needs.{needs}
 use Rattle.strings.proofs.rule.turns_at.Statement.{statement}

@@ -1,5 +1,4 @@
 use Rattle.strings.specs.Strings.{turnOf}
-use Rattle.strings.specs.inner.Walking.{Sound}
 use borrow.Author.Needs.{needs}
 use Rattle.strings.proofs.turns.turn_of.Statement.{statement}
 use Rattle.strings.proofs.turns.turn_of.Tie as tie

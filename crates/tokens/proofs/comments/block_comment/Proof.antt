@@ -3,7 +3,6 @@ use mathlib.Core.Path.{_≡_, refl, sym, ap, _∙_}
 use mathlib.Core.Logic.{⊎-elim}
 use native.Mathlib.Omega.{arith}
 use lib.ListN.{length}
-use Rattle.answers.specs.declared.Place.{Place}
 use Rattle.chars.specs.declared.Read.the-variants.{Char}
 use Rattle.chars.specs.View.{foldedAt, foldedFrom}
 use Rattle.chars.proofs.ViewLaws.{folded-onward}
