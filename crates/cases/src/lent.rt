@@ -4,7 +4,8 @@ use cursors::Cursor;
 use cursors::Went;
 ghost use mathlib.Core.Path.{_≡_};
 ghost use Rattle.answers.specs.Places.{place};
-ghost use Rattle.steps.specs.Steps.{nextRawAt, nextAt, eatAt, expectAt};
+ghost use Rattle.steps.specs.Steps.{nextRawAt, nextAt};
+ghost use Rattle.wants.specs.Wanted.{eatAt, expectAt};
 ghost use Rattle.cursors.specs.Cursors.{plain};
 
 pub(crate) fn next_raw(text: &[u8], offset: u32, from: u32) -> Went

@@ -1,4 +1,4 @@
-//! The cursor that the caller lends: each step reads at it and moves it on. The work is done by the plain-place functions of `steps`.
+//! The cursor that the caller lends: each step reads at it and moves it on. The work is done by the plain-place functions of `steps` and `wants`.
 use answers::Place;
 use answers::Refusal;
 use steps::Moved;
@@ -6,7 +6,8 @@ use steps::Opened;
 use steps::Step;
 ghost use mathlib.Core.Path.{_≡_};
 ghost use Rattle.answers.specs.Places.{place};
-ghost use Rattle.steps.specs.Steps.{moved, nextRawAt, nextAt, eatAt, expectAt};
+ghost use Rattle.steps.specs.Steps.{moved, nextRawAt, nextAt};
+ghost use Rattle.wants.specs.Wanted.{eatAt, expectAt};
 ghost use Rattle.cursors.specs.Cursors.{openedCursor, plain};
 
 // Where in a text the next step reads.
@@ -60,13 +61,13 @@ pub fn next_from(text: &[u8], offset: u32, at: u32) -> Went
 pub fn eat_from(text: &[u8], offset: u32, at: u32, wanted: u32) -> Went
     ensures { λ r. ⌜ r ≡ plain (eatAt (now (text .entry)) offset wanted (place at)) ⌝ }
 {
-    as_plain(steps::eat_at(text, offset, wanted, Place(at)))
+    as_plain(wants::eat_at(text, offset, wanted, Place(at)))
 }
 
 pub fn expect_from(text: &[u8], offset: u32, at: u32, wanted: u32) -> Went
     ensures { λ r. ⌜ r ≡ plain (expectAt (now (text .entry)) offset wanted (place at)) ⌝ }
 {
-    as_plain(steps::expect_at(text, offset, wanted, Place(at)))
+    as_plain(wants::expect_at(text, offset, wanted, Place(at)))
 }
 
 // The next token, blanks and comments too.

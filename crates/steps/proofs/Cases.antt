@@ -17,7 +17,7 @@ use Rattle.steps.specs.declared.Opened.{Opened}
 use Rattle.steps.specs.declared.Step.{Step}
 use Rattle.steps.specs.declared.Moved.{Moved}
 use Rattle.steps.specs.Stream.{afterRaw, tokensBy, tokensFrom}
-use Rattle.steps.specs.Steps.{marked, openedBy, opened, cursorVerdict, kindVerdict, stepVerdict, moved, movedBy, rawStep, nextRawAt, isBlank, nextStep, nextAt, eatStep, eatAt, expectStep, expectAt}
+use Rattle.steps.specs.Steps.{marked, openedBy, opened, cursorVerdict, stepVerdict, moved, movedBy, rawStep, nextRawAt, isBlank, nextStep, nextAt}
 
 abbrev pub position : ℕ → Position
 position p = record { 0 = p }
@@ -74,14 +74,6 @@ unfoldable pub next : List ℕ → ℕ → Moved
 unfolding nextRaw nextAt nextStep isBlank kindOf tokensFrom tokensBy afterRaw
 next s p = nextAt s 5 (place p)
 
-unfoldable pub eat : List ℕ → ℕ → ℕ → Moved
-unfolding next eatAt eatStep kindVerdict
-eat s wanted p = eatAt s 5 wanted (place p)
-
-unfoldable pub expect : List ℕ → ℕ → ℕ → Moved
-unfolding eat expectAt expectStep
-expect s wanted p = expectAt s 5 wanted (place p)
-
 -- EF BB BF EF BB BF: a step over the second mark is 9,
 pub second-mark : nextRaw (0xEF ∷ 0xBB ∷ 0xBF ∷ 0xEF ∷ 0xBB ∷ 0xBF ∷ []) 3 ≡ moved (Step.Refused (Refusal.Unclassified (position 8) 0xFEFF)) (place 3)
 unfolding nextRaw
@@ -107,51 +99,17 @@ pub inside-character : nextRaw (0xC3 ∷ 0xA9 ∷ []) 1 ≡ moved (Step.Refused 
 unfolding nextRaw
 inside-character = refl
 
--- 20 2F 2F: next at the end moves the cursor over blanks and comments to the end,
+-- 20 2F 2F: next at the end moves the cursor over blanks and comments to the end.
 pub next-at-end : next (ascii " //") 0 ≡ moved Step.End (place 3)
 unfolding next
 next-at-end = refl
 
--- and eat leaves it.
-pub eat-at-end : eat (ascii " //") 62 0 ≡ moved Step.No (place 0)
-unfolding eat
-eat-at-end = refl
-
--- Next skips blanks and comments,
+-- Next skips blanks and comments.
 pub next-skips : next (ascii " /**/a") 0 ≡ moved (Step.Token Token.Id (span 10 11)) (place 6)
 unfolding next
 next-skips = refl
-
--- so eat of kind 0 or 1 never says yes.
-pub eat-blank : eat (ascii " a") 0 0 ≡ moved Step.No (place 0)
-unfolding eat
-eat-blank = refl
-
-pub eat-comment : eat (ascii "/**/a") 1 0 ≡ moved Step.No (place 0)
-unfolding eat
-eat-comment = refl
 
 -- 20 0D: a refusal behind a blank leaves the cursor before the blank.
 pub refused-behind-blank : next (0x20 ∷ 0x0D ∷ []) 0 ≡ moved (Step.Refused (Refusal.Unexpected (position 6) 13)) (place 0)
 unfolding next
 refused-behind-blank = refl
-
--- `a`, cursor 2, kind 67 wanted: 23 goes before 22,
-pub beyond-before-kind : eat (ascii "a") 67 2 ≡ moved (Step.Refused Refusal.BeyondText) (place 2)
-unfolding eat
-beyond-before-kind = refl
-
--- and a cursor at the length is inside: 22.
-pub kind-too-large : expect (ascii "a") 67 1 ≡ moved (Step.Refused Refusal.BadSpan) (place 1)
-unfolding expect
-kind-too-large = refl
-
--- `a `, `;` wanted behind the `a`: 21's found kind is 67 at the end of the text, and the cursor stands there.
-pub wanted-at-end : expect (ascii "a ") 6 1 ≡ moved (Step.Refused (Refusal.Wanted (position 7) 6 67)) (place 2)
-unfolding expect
-wanted-at-end = refl
-
--- ` a;`, `;` wanted: 21 stands at the found token's start, and the cursor behind it.
-pub wanted-other : expect (ascii " a;") 6 0 ≡ moved (Step.Refused (Refusal.Wanted (position 6) 6 62)) (place 2)
-unfolding expect
-wanted-other = refl

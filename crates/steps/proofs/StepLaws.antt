@@ -26,7 +26,7 @@ use Rattle.tokens.specs.Tokens.{rawAt}
 use Rattle.steps.specs.declared.Opened.{Opened}
 use Rattle.steps.specs.declared.Step.{Step}
 use Rattle.steps.specs.Stream.{tokensFrom}
-use Rattle.steps.specs.Steps.{marked, opened, openedBy, cursorVerdict, stepVerdict, kindVerdict, moved, movedBy, isBlank, nextStep, nextAt}
+use Rattle.steps.specs.Steps.{marked, opened, openedBy, cursorVerdict, stepVerdict, moved, movedBy, isBlank, nextStep, nextAt}
 use Rattle.steps.proofs.StreamLaws.{tokens-done, tokens-stop, tokens-token}
 
 -- a step that passes its checks stands within a text that fits
@@ -48,11 +48,6 @@ step-fits s o p w = first-accepted (textVerdict o (length s)) (cursorVerdict s p
 pub next-fits : (s : List ℕ) (o : ℕ) (p : Place) → Stands s o p → nextAt s o p ≡ nextStep p (tokensFrom s o p)
 unfolding nextAt movedBy
 next-fits s o p w = rw (step-fits s o p w)
-
--- and a step for a kind wants one of the 67
-pub wanted-in : (wanted : ℕ) → kindVerdict wanted ≡ Accepted → wanted ≤ 66
-unfolding kindVerdict
-wanted-in wanted e = leb-true wanted 66 (accepted-if (leb wanted 66) Refusal.BadSpan e)
 
 module _ (from : Place) (s : List ℕ) (o : ℕ) (p : Place) where
   pub next-end : rawAt s o p ≡ Raw.End → nextStep from (tokensFrom s o p) ≡ moved Step.End p

@@ -1,4 +1,4 @@
--- 01, "Tokens": opening, and next raw, next, eat and expect on a plain place. Each step answers what it found and the place where the cursor then stands.
+-- 01, "Tokens": opening, and next raw and next on a plain place. Each step answers what it found and the place where the cursor then stands.
 use Prim.Native.Nat.{ℕ}
 use mathlib.Core.Bool.{Bool, _&&_}
 use mathlib.Core.List.{List}
@@ -6,12 +6,10 @@ use lib.ListN.{length}
 use lib.Dec.{leb, eqb}
 use Rattle.terms.specs.Terms.{if_then_else_}
 use Rattle.answers.specs.declared.Place.{Place}
-use Rattle.answers.specs.declared.Position.{Position}
-use Rattle.answers.specs.declared.Span.{Span}
 use Rattle.answers.specs.declared.Verdict.{Verdict}
 use Rattle.answers.specs.declared.Verdict.the-variants.{Accepted, Refused}
 use Rattle.answers.specs.declared.Refusal.{Refusal}
-use Rattle.answers.specs.Places.{place, inMap}
+use Rattle.answers.specs.Places.{place}
 use Rattle.answers.specs.Caps.{firstOf, textVerdict}
 use Rattle.chars.specs.Utf8.{byteAt}
 use Rattle.chars.specs.Screening.{invalidInput}
@@ -39,10 +37,6 @@ opened s o = openedBy (firstOf (textVerdict o (length s)) (invalidInput s)) s
 -- 23: the cursor is beyond the text.
 unfoldable pub cursorVerdict : List ℕ → Place → Verdict
 cursorVerdict s p = if leb (p .0) (length s) then Accepted else Refused Refusal.BeyondText
-
--- 22: a wanted kind above 66.
-unfoldable pub kindVerdict : ℕ → Verdict
-kindVerdict wanted = if leb wanted 66 then Accepted else Refused Refusal.BadSpan
 
 -- What a step checks before it reads: 1, 2, 23.
 unfoldable pub stepVerdict : List ℕ → ℕ → Place → Verdict
@@ -79,29 +73,3 @@ nextStep p (token kind span n t) = if isBlank kind then nextStep p t else moved 
 -- Next.
 unfoldable pub nextAt : List ℕ → ℕ → Place → Moved
 nextAt s o p = movedBy (stepVerdict s o p) p (nextStep p (tokensFrom s o p))
-
--- Eat moves the cursor past the next token only if it is of the wanted kind.
-unfoldable pub eatStep : ℕ → Place → Step → Place → Moved
-eatStep wanted p (Step.Token kind span) n = if eqb (kindOf kind) wanted then moved (Step.Token kind span) n else moved Step.No p
-eatStep wanted p Step.End n = moved Step.No p
-eatStep wanted p Step.No n = moved Step.No p
-eatStep wanted p (Step.Refused f) n = moved (Step.Refused f) p
-
-unfoldable pub eatAt : List ℕ → ℕ → ℕ → Place → Moved
-eatAt s o wanted p =
-    movedBy (firstOf (stepVerdict s o p) (kindVerdict wanted)) p
-    (eatStep wanted p (nextStep p (tokensFrom s o p) .step) (nextStep p (tokensFrom s o p) .at))
-
--- Expect moves past it, or answers 21 at the found token's start or at the end e, with the cursor behind the found token or at the end.
-unfoldable pub expectStep : ℕ → Position → Place → Step → Place → Moved
-expectStep wanted e p (Step.Token kind span) n =
-    if eqb (kindOf kind) wanted then moved (Step.Token kind span) n
-    else moved (Step.Refused (Refusal.Wanted (span .start) wanted (kindOf kind))) n
-expectStep wanted e p Step.End n = moved (Step.Refused (Refusal.Wanted e wanted 67)) n
-expectStep wanted e p Step.No n = moved Step.No p
-expectStep wanted e p (Step.Refused f) n = moved (Step.Refused f) p
-
-unfoldable pub expectAt : List ℕ → ℕ → ℕ → Place → Moved
-expectAt s o wanted p =
-    movedBy (firstOf (stepVerdict s o p) (kindVerdict wanted)) p
-    (expectStep wanted (inMap o (place (length s))) p (nextStep p (tokensFrom s o p) .step) (nextStep p (tokensFrom s o p) .at))

@@ -1,4 +1,5 @@
-//! Opening a text, and the steps over its tokens on a plain place: each answers what it found and the place where the cursor then stands.
+//! Opening a text, and the steps to its next token on a plain place: each answers what it found and the place where the cursor then stands.
+//! `check_step` and `next_step` are for the room of the wanted kinds.
 mod opening;
 mod stepping;
 
@@ -6,11 +7,11 @@ use answers::Place;
 use answers::Refusal;
 use answers::Span;
 pub use opening::open;
-pub use stepping::eat_at;
-pub use stepping::expect_at;
+pub use stepping::check_step;
 pub use stepping::is_blank;
 pub use stepping::next_at;
 pub use stepping::next_raw_at;
+pub use stepping::next_step;
 use tokens::Token;
 
 // What opening answers: the place where the cursor stands, or the refusal.

@@ -11,7 +11,8 @@ ghost use mathlib.Core.Path.{_≡_};
 ghost use Rattle.answers.specs.Places.{place};
 ghost use Rattle.strings.specs.Decoding.{decoded};
 ghost use Rattle.names.specs.Names.{plainId, explicitId};
-ghost use Rattle.steps.specs.Steps.{opened, nextRawAt, nextAt, eatAt, expectAt};
+ghost use Rattle.steps.specs.Steps.{opened, nextRawAt, nextAt};
+ghost use Rattle.wants.specs.Wanted.{eatAt, expectAt};
 ghost use Rattle.listing.specs.declared.Listing.the-variants.{Raw, Filtered};
 ghost use Rattle.listing.specs.Listings.{listed};
 ghost use Rattle.clerk.specs.Sorted.{sorted};
@@ -99,7 +100,7 @@ pub extern "C" fn witbox_next(text: &[u8], offset: u32, cursor: &mut u32) -> Ste
 pub extern "C" fn witbox_eat(text: &[u8], offset: u32, wanted: u32, cursor: &mut u32) -> StepAnswer
     ensures { λ r. ⌜ (r, now (cursor .exit)) ≡ stepNumbers (eatAt (now (text .entry)) offset wanted (place (now (cursor .entry)))) ⌝ }
 {
-    answering::step_answer(steps::eat_at(text, offset, wanted, Place(*cursor)), cursor)
+    answering::step_answer(wants::eat_at(text, offset, wanted, Place(*cursor)), cursor)
 }
 
 #[no_mangle]
@@ -112,7 +113,7 @@ pub extern "C" fn witbox_expect(
     ensures { λ r. ⌜ (r, now (cursor .exit)) ≡ stepNumbers (expectAt (now (text .entry)) offset wanted (place (now (cursor .entry)))) ⌝ }
 {
     answering::step_answer(
-        steps::expect_at(text, offset, wanted, Place(*cursor)),
+        wants::expect_at(text, offset, wanted, Place(*cursor)),
         cursor,
     )
 }

@@ -2,7 +2,8 @@
 use mathlib.Core.Path.{_≡_, ap}
 use base.Logic.{id⊢, emp}
 use contract.Monad.{factI}
-use Rattle.steps.specs.Steps.{moved, expectAt}
+use Rattle.steps.specs.Steps.{moved}
+use Rattle.wants.specs.Wanted.{expectAt}
 use Rattle.cursors.specs.Cursors.{plain}
 use Rattle.cases.proofs.ThroughBy.{goes-through}
 use Rattle.cursors.proofs.expect as callee

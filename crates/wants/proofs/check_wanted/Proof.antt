@@ -1,9 +1,9 @@
-use Rattle.steps.specs.Steps.{kindVerdict}
+use Rattle.wants.specs.Wanted.{kindVerdict}
 use Rattle.answers.specs.Caps.{firstOf}
 use borrow.Author.Tests.{le-leb, lt-leb}
 use borrow.Author.Needs.{needs}
-use Rattle.steps.proofs.stepping.check_wanted.Statement.{statement}
-use Rattle.steps.proofs.stepping.check_wanted.Tie as tie
+use Rattle.wants.proofs.check_wanted.Statement.{statement}
+use Rattle.wants.proofs.check_wanted.Tie as tie
 
 check-step-requires : tie.Need-check-step-requires
 check-step-requires c κs = search needs

@@ -1,11 +1,13 @@
 use mathlib.Core.Path.{sym, _∙_}
 use native.Mathlib.Omega.{arith}
 use Rattle.answers.proofs.CapsLaws.{first-both}
-use Rattle.steps.proofs.StepLaws.{step-in, wanted-in}
-use Rattle.steps.specs.Steps.{expectAt, movedBy}
+use Rattle.steps.proofs.StepLaws.{step-in}
+use Rattle.steps.specs.Steps.{movedBy}
+use Rattle.wants.specs.Wanted.{expectAt}
+use Rattle.wants.proofs.WantedLaws.{wanted-in}
 use borrow.Author.Needs.{needs}
-use Rattle.steps.proofs.stepping.expect_at.Statement.{statement}
-use Rattle.steps.proofs.stepping.expect_at.Tie as tie
+use Rattle.wants.proofs.expect_at.Statement.{statement}
+use Rattle.wants.proofs.expect_at.Tie as tie
 
 check-wanted-requires : tie.Need-check-wanted-requires
 check-wanted-requires c κs = search needs

@@ -1,8 +1,8 @@
-use Rattle.steps.specs.Steps.{eatStep}
+use Rattle.wants.specs.Wanted.{expectStep}
 use borrow.Author.Tests.{eq-eqb, ne-eqb}
 use borrow.Author.Needs.{needs}
-use Rattle.steps.proofs.stepping.eat_step.Statement.{statement}
-use Rattle.steps.proofs.stepping.eat_step.Tie as tie
+use Rattle.wants.proofs.expect_step.Statement.{statement}
+use Rattle.wants.proofs.expect_step.Tie as tie
 
 enum-known-step : tie.Need-enum-known-step
 enum-known-step c = search needs
@@ -14,11 +14,20 @@ cast-if1 : tie.Need-cast-if1
 cast-if1 c = search needs
 
 returns : tie.Need-returns
-unfolding eatStep
+unfolding expectStep
 returns c = rw (c .before .before .before .step .given .1, ← c .before .kind .ensures, eq-eqb _ _ (c .if1 .taken))
+
+cast-t11 : tie.Need-cast-t11
+cast-t11 c = search needs
+
+kind-requires-2 : tie.Need-kind-requires-2
+kind-requires-2 c κs = search needs
 
 enum-told : tie.Need-enum-told
 enum-told c = search needs
+
+cast-t18 : tie.Need-cast-t18
+cast-t18 c = search needs
 
 enum-told-2 : tie.Need-enum-told-2
 enum-told-2 c = search needs
@@ -27,30 +36,33 @@ enum-known-step-2 : tie.Need-enum-known-step-2
 enum-known-step-2 c = search needs
 
 returns-2 : tie.Need-returns-2
-unfolding eatStep
-returns-2 c = rw (c .before .before .before .step .given .1, ← c .before .kind .ensures, ne-eqb _ _ (c .if1 .left))
+unfolding expectStep
+returns-2 c = rw (c .before .before .before .before .before .step .given .1, ← c .before .before .before .kind .ensures, ne-eqb _ _ (c .before .before .if1 .left), c .kind2 .ensures, c .before .before .before .kind .ensures)
 
 returns-3 : tie.Need-returns-3
-unfolding eatStep
+unfolding expectStep
 returns-3 c = rw (c .enum-told .given .1)
 
 returns-4 : tie.Need-returns-4
-unfolding eatStep
+unfolding expectStep
 returns-4 c = rw (c .enum-told2 .given .1)
 
 returns-5 : tie.Need-returns-5
-unfolding eatStep
+unfolding expectStep
 returns-5 c = rw (c .before .step2 .given .1)
 
-pub eat-step-spec : {M : Type 1} → statement M
-eat-step-spec =
+pub expect-step-spec : {M : Type 1} → statement M
+expect-step-spec =
     tie.close
     (tie.spec
     enum-known-step
     kind-requires
     cast-if1
     returns
+    cast-t11
+    kind-requires-2
     enum-told
+    cast-t18
     enum-told-2
     enum-known-step-2
     returns-2

@@ -1,7 +1,8 @@
-use Rattle.steps.specs.Steps.{eatAt, movedBy}
+use Rattle.steps.specs.Steps.{movedBy}
+use Rattle.wants.specs.Wanted.{eatAt}
 use borrow.Author.Needs.{needs}
-use Rattle.steps.proofs.stepping.eat_at.Statement.{statement}
-use Rattle.steps.proofs.stepping.eat_at.Tie as tie
+use Rattle.wants.proofs.eat_at.Statement.{statement}
+use Rattle.wants.proofs.eat_at.Tie as tie
 
 check-wanted-requires : tie.Need-check-wanted-requires
 check-wanted-requires c κs = search needs

@@ -1,0 +1,2 @@
+-- The steps for a wanted kind.
+pub mod Wanted
