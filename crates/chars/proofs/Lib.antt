@@ -2,10 +2,7 @@
 pub mod Utf8Laws
 pub mod ViewLaws
 pub mod SeekLaws
-pub mod PlainLaws
-pub mod ScreeningLaws
-pub mod EncodeLaws
-pub mod RoundTrip
+pub mod SingleLaws
 pub mod RunLaws
 pub mod LocalLaws
 -- One answer for each contract.

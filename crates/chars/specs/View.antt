@@ -7,6 +7,9 @@ use lib.Dec.{eqb}
 use Rattle.terms.specs.Terms.{if_then_else_}
 use Rattle.answers.specs.declared.Place.{Place}
 use Rattle.answers.specs.declared.Ill.{Ill as Sequence}
+use Rattle.answers.specs.declared.Verdict.{Verdict}
+use Rattle.answers.specs.declared.Verdict.the-variants.{Accepted, Refused}
+use Rattle.answers.specs.declared.Refusal.the-variants.{IllFormed}
 use Rattle.chars.specs.declared.Read.{Read}
 use Rattle.chars.specs.declared.Read.the-variants.{End, Ill, Char}
 use Rattle.chars.specs.Utf8.{byteAt, onBy, charAt}
@@ -51,3 +54,9 @@ foldedAt s p = folded s (charAt s p)
 -- The text so read.
 unfoldable pub foldedFrom : List ℕ → Place → Chars
 foldedFrom s p = seenBy (foldedAt s) (suc (length s - p .0)) p
+
+-- Well-formedness: 3 at the first ill-formed sequence.
+unfoldable pub wellFormed : Chars → Verdict
+wellFormed (end p) = Accepted
+wellFormed (ill i) = Refused (IllFormed i)
+wellFormed (char p c v) = wellFormed v

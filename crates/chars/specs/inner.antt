@@ -1,4 +1,3 @@
 -- What no host's contract needs.
-pub mod OneWalk
-pub mod Plain
 pub mod Runs
+pub mod Single

@@ -1,11 +1,8 @@
-//! The character rules: what the bytes of a text read as (RFC 3629), screening, and the classes of characters.
-//! The token rules rest on these promises alone.
+//! The character rules: what the bytes of a text read as (RFC 3629), runs of bytes, and the classes of characters.
+//! The rooms above rest on these promises alone. Of the functions, `run_end`, `limit` and `single_at` are for those rooms; no host needs them.
 mod classes;
-mod encoding;
-mod plain;
 mod reading;
 mod runs;
-mod screening;
 
 use answers::Ill;
 use answers::Place;
@@ -14,18 +11,13 @@ pub use classes::is_keylike_start;
 pub use classes::to_hex;
 pub use classes::xid_continue;
 pub use classes::xid_start;
-pub use encoding::encode;
-pub use encoding::is_scalar;
-pub use encoding::width;
-pub use plain::plain_end;
 pub use reading::byte_at;
 pub use reading::folded_at;
 pub use reading::lead_of;
 pub use reading::read_at;
 pub use reading::single_at;
+pub use runs::limit;
 pub use runs::run_end;
-pub use screening::detect_invalid_input;
-pub use screening::offence_of;
 
 // What stands at a place: the end of the text, an ill-formed sequence, or a character and the next place.
 pub enum Read {
@@ -41,14 +33,6 @@ pub enum Lead {
     Three(u32, u32),
     Four(u32, u32),
     Never,
-}
-
-// What screening finds wrong with a character.
-pub enum Offence {
-    None,
-    Control,
-    Deprecated,
-    Forbidden,
 }
 
 // Whether a character is of a class; above U+02C1 that is not known.

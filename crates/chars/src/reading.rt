@@ -10,7 +10,7 @@ ghost use Rattle.terms.specs.Terms.{within};
 ghost use Rattle.answers.specs.Caps.{cap};
 ghost use Rattle.chars.specs.Utf8.{byteAt, onBy, leadOf, isTail, charBy, charAt};
 ghost use Rattle.chars.specs.View.{foldedAt};
-ghost use Rattle.chars.specs.inner.Plain.{singleAt};
+ghost use Rattle.chars.specs.inner.Single.{singleAt};
 
 // The byte at a place, 0 past the end.
 pub fn byte_at(text: &[u8], at: Place) -> u32

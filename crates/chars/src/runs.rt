@@ -27,7 +27,7 @@ fn has(set: AsciiSet, b: u32) -> bool
 }
 
 // The place behind the last byte that is read.
-pub(crate) fn limit(text: &[u8]) -> usize
+pub fn limit(text: &[u8]) -> usize
     ensures { λ r. ⌜ r ≡ min (length (now (text .entry))) cap ⌝ }
 {
     if text.len() < 65536 {

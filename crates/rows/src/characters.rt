@@ -41,7 +41,7 @@ fn with_first(out: Out, bytes: &[u8], n: usize) -> Out {
 
 pub(crate) fn character(out: Out, c: u32) -> Out {
     let mut bytes = [0u8; 4];
-    let n = chars::encode(c, &mut bytes);
+    let n = encoding::encode(c, &mut bytes);
     with_first(out, &bytes, n)
 }
 

@@ -9,7 +9,8 @@ use Rattle.answers.specs.declared.Verdict.the-variants.{Refused as Refused′}
 use Rattle.answers.specs.declared.Refusal.{Refusal}
 use Rattle.answers.specs.Places.{place}
 use Rattle.answers.specs.Caps.{firstOf, lengthVerdict, mapVerdict, textVerdict}
-use Rattle.chars.specs.Screening.{offences, offenceOf, screenedBy, screened, wellFormed, invalidInput}
+use Rattle.chars.specs.View.{wellFormed}
+use Rattle.screening.specs.Screening.{offences, offenceOf, screenedBy, screened, invalidInput}
 use Rattle.tokens.specs.declared.Token.{Token}
 use Rattle.tokens.specs.Kinds.{kindOf}
 use Rattle.tokens.proofs.Cases.{at}

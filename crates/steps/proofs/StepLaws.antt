@@ -18,7 +18,7 @@ use Rattle.terms.specs.Terms.{if_then_else_}
 use Rattle.terms.proofs.TestLaws.{and-both}
 use Rattle.chars.specs.Utf8.{byteAt}
 use Rattle.chars.proofs.Utf8Laws.{byte-in}
-use Rattle.chars.specs.Screening.{invalidInput}
+use Rattle.screening.specs.Screening.{invalidInput}
 use Rattle.answers.proofs.CapsLaws.{Fits, text-in, fits-text, first-accepted, first-both, accepted-if}
 use Rattle.tokens.specs.declared.Token.{Token}
 use Rattle.tokens.specs.declared.Raw.{Raw}

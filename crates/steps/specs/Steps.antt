@@ -12,7 +12,7 @@ use Rattle.answers.specs.declared.Refusal.{Refusal}
 use Rattle.answers.specs.Places.{place}
 use Rattle.answers.specs.Caps.{firstOf, textVerdict}
 use Rattle.chars.specs.Utf8.{byteAt}
-use Rattle.chars.specs.Screening.{invalidInput}
+use Rattle.screening.specs.Screening.{invalidInput}
 use Rattle.tokens.specs.declared.Token.{Token}
 use Rattle.tokens.specs.declared.Raw.{Raw}
 use Rattle.tokens.specs.Kinds.{kindOf}

@@ -25,7 +25,7 @@ pub fn open(text: &[u8], offset: u32) -> Opened
     if let Verdict::Refused(refusal) = answers::check_text(offset, text.len()) {
         return Opened::Refused(refusal);
     }
-    if let Verdict::Refused(refusal) = chars::detect_invalid_input(text) {
+    if let Verdict::Refused(refusal) = screening::detect_invalid_input(text) {
         return Opened::Refused(refusal);
     }
     if is_marked(text) {

@@ -53,7 +53,7 @@ fn put(value: &mut [u8], n: usize, more: More) -> usize
             value[n] = b as u8;
             1
         }
-        More::Whole(c) => chars::encode(c, &mut value[n..]),
+        More::Whole(c) => encoding::encode(c, &mut value[n..]),
     }
 }
 

@@ -175,7 +175,7 @@ fn size(more: More) -> u32
     match more {
         More::Nothing => 0,
         More::One(_) => 1,
-        More::Whole(c) => chars::width(c) as u32,
+        More::Whole(c) => encoding::width(c) as u32,
     }
 }
 

@@ -113,7 +113,7 @@ fn number_turn(u: Place, first: Place, n: u32, lone: bool, at: Place, c: u32) ->
     if lone {
         return Turn::Fail(Refusal::LoneUnderscore(first));
     }
-    if chars::is_scalar(n) {
+    if encoding::is_scalar(n) {
         if c == 0x7D {
             return Turn::On(Inside::Plain, More::Whole(n));
         }

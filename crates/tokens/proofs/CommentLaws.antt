@@ -15,9 +15,9 @@ use Rattle.answers.specs.declared.Refusal.the-variants.{IllFormed, Unterminated
 use Rattle.chars.specs.declared.Read.the-variants.{End, Ill, Char}
 use Rattle.chars.specs.Utf8.{byteAt, onBy}
 use Rattle.chars.specs.View.{Chars, end, ill, char, placeOf, foldedAt, foldedFrom}
-use Rattle.chars.specs.inner.Plain.{plainEnd}
+use Rattle.screening.specs.inner.Plain.{plainEnd}
 use Rattle.chars.proofs.ViewLaws.{Ordered, folded-end, folded-ill, folded-char, folded-place, folded-ordered, ordered-place}
-use Rattle.chars.proofs.PlainLaws.{Passes, plain-beyond, plain-folded}
+use Rattle.screening.proofs.PlainLaws.{Passes, plain-beyond, plain-folded}
 use Rattle.tokens.specs.declared.Block.{Block}
 use Rattle.tokens.specs.declared.Ran.the-variants.{To, Stopped}
 use Rattle.tokens.specs.Comments.{lineComment, seen, blockTurn, blockOn, blockComment}

@@ -21,9 +21,9 @@ use Rattle.chars.specs.View.{Chars, end, ill, char, placeOf, foldedAt, foldedFr
 use Rattle.chars.specs.Classes.{xidStarts, xidStart, xidContinue, keylikeContinue}
 use Rattle.chars.specs.inner.Runs.{inSet, runEnd}
 use Rattle.chars.proofs.ViewLaws.{Ordered, folded-end, folded-ill, folded-char, folded-ordered}
-use Rattle.chars.specs.inner.Plain.{singleAt}
+use Rattle.chars.specs.inner.Single.{singleAt}
 use Rattle.chars.proofs.RunLaws.{run-strides, run-stops, allBelow, below, each-of-set}
-use Rattle.chars.proofs.PlainLaws.{single-is, single-stands}
+use Rattle.chars.proofs.SingleLaws.{single-is, single-stands}
 use Rattle.tokens.specs.declared.Ran.{Ran}
 use Rattle.tokens.specs.declared.Ran.the-variants.{To, Stopped}
 use Rattle.tokens.specs.declared.Run.{Run}

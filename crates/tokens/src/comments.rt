@@ -16,7 +16,7 @@ pub(crate) fn line_comment(text: &[u8], from: Place) -> Ran
 {
     let mut at = from;
     loop {
-        let here = chars::plain_end(text, at, 10, 10, 13);
+        let here = screening::plain_end(text, at, 10, 10, 13);
         match chars::folded_at(text, here) {
             Read::End => {
                 return Ran::To(here);
@@ -78,7 +78,7 @@ fn passed(text: &[u8], at: Place, block: Block) -> Place
     ensures { λ r. ⌜ r ≡ passedBy block (now (text .entry)) at ⌝ }
 {
     match block {
-        Block::Other(_) => chars::plain_end(text, at, 47, 42, 13),
+        Block::Other(_) => screening::plain_end(text, at, 47, 42, 13),
         Block::Slash(_) => at,
         Block::Star(_) => at,
         Block::Closed => at,

@@ -31,7 +31,7 @@ fn reads_back(text: &[u8], c: u32) -> bool {
 }
 
 fn screened(text: &[u8]) -> u32 {
-    match chars::detect_invalid_input(text) {
+    match screening::detect_invalid_input(text) {
         Verdict::Accepted => 0,
         Verdict::Refused(refusal) => refusal.number(),
     }
@@ -68,7 +68,7 @@ fn with_first(from: Found, c: u32, bytes: &[u8], n: usize) -> Found {
 
 fn with_number(from: Found, c: u32) -> Found {
     let mut bytes = [0u8; 4];
-    let n = chars::encode(c, &mut bytes);
+    let n = encoding::encode(c, &mut bytes);
     if n == 0 {
         let mut f = from;
         f.none = one_more(f.none);

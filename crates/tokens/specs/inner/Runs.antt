@@ -5,8 +5,8 @@ use Rattle.answers.specs.declared.Place.{Place}
 use Rattle.answers.specs.Caps.{cap}
 use Rattle.chars.specs.declared.AsciiSet.{AsciiSet}
 use Rattle.chars.specs.declared.Class.{Class}
-use Rattle.chars.specs.inner.Plain.{plainEnd}
 use Rattle.chars.specs.Classes.{keylikeContinue}
+use Rattle.screening.specs.inner.Plain.{plainEnd}
 use Rattle.tokens.specs.declared.Run.{Run}
 use Rattle.tokens.specs.declared.Block.{Block}
 use Rattle.tokens.specs.Comments.{blank, digit}

@@ -1,6 +1,6 @@
 use mathlib.Core.Path.{sym, _∙_}
 use native.Mathlib.Omega.{arith}
-use Rattle.chars.proofs.PlainLaws.{single-is, single-stands}
+use Rattle.chars.proofs.SingleLaws.{single-is, single-stands}
 use borrow.Author.Needs.{needs}
 use Rattle.chars.proofs.reading.folded_at.Statement.{statement}
 use Rattle.chars.proofs.reading.folded_at.Tie as tie

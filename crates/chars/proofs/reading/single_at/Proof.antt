@@ -1,6 +1,6 @@
 use borrow.Author.Tests.{le-leb, lt-leb, eq-eqb, ne-eqb}
 use Rattle.chars.specs.Utf8.{byteAt}
-use Rattle.chars.specs.inner.Plain.{singleAt}
+use Rattle.chars.specs.inner.Single.{singleAt}
 use borrow.Author.Needs.{needs}
 use Rattle.chars.proofs.reading.single_at.Statement.{statement}
 use Rattle.chars.proofs.reading.single_at.Tie as tie

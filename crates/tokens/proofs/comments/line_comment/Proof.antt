@@ -6,7 +6,7 @@ use Rattle.answers.specs.declared.Place.{Place}
 use Rattle.chars.specs.declared.Read.the-variants.{Char}
 use Rattle.chars.specs.View.{foldedAt, foldedFrom}
 use Rattle.chars.proofs.ViewLaws.{folded-onward}
-use Rattle.chars.proofs.PlainLaws.{plain-beyond}
+use Rattle.screening.proofs.PlainLaws.{plain-beyond}
 use Rattle.tokens.specs.Comments.{lineComment}
 use Rattle.tokens.proofs.CommentLaws.{line-end, line-ill, line-newline, line-other, line-passes}
 use borrow.Author.Needs.{needs}

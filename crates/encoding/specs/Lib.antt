@@ -1,0 +1,1 @@
+-- Nothing of its own: what the bytes of a character are stands beside how they are read, in `chars`.

@@ -1,0 +1,4 @@
+-- Screening.
+pub mod Screening
+-- What only inner contracts cite.
+pub mod inner
