@@ -23,7 +23,7 @@ def number(path, name):
 
 def wanted():
     refusals = re.findall(r"^told \(?Refusal\.(\w+)[^=]*= row (\d+) ", text("crates/answers/specs/Refusals.antt"), re.M)
-    kinds = re.findall(r"^kindOf Token\.(\S+) = (\d+)$", text("crates/tokens/specs/Kinds.antt"), re.M)
+    kinds = re.findall(r"^kindOf Token\.(\S+) = (\d+)$", text("crates/kinds/specs/Kinds.antt"), re.M)
     yield "WITBOX_ACCEPTED", "0"
     yield from ((f"WITBOX_{words(name)}", n) for name, n in refusals)
     yield from ((f"WITBOX_KIND_{words(name)}", n) for name, n in kinds)

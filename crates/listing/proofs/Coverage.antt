@@ -11,7 +11,7 @@ use Rattle.answers.specs.declared.Place.{Place}
 use Rattle.answers.specs.declared.Span.{Span}
 use Rattle.answers.specs.Places.{place}
 use Rattle.answers.proofs.CapsLaws.{in-map}
-use Rattle.tokens.specs.declared.Token.{Token}
+use Rattle.kinds.specs.declared.Token.{Token}
 use Rattle.tokens.specs.declared.Raw.{Raw}
 use Rattle.tokens.specs.Tokens.{rawAt}
 use Rattle.tokens.proofs.TokenLaws.{raw-goes, raw-end-at}

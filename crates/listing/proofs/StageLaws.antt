@@ -8,14 +8,14 @@ use native.Mathlib.Nat.{add-zero}
 use lib.ListN.{length, getD, set, take, drop, length-append, length-take, length-drop, take-append-drop}
 use lib.Dec.{leb}
 use lib.Seq.{take-at, drop-at, drop-drop, sets-eq, paste, paste-zero, paste-suc, length-paste}
-use Rattle.tokens.specs.Kinds.{kindOf}
+use Rattle.kinds.specs.Kinds.{kindOf}
 use borrow.Author.Tests.{le-leb, lt-leb, leb-true}
 use Rattle.terms.specs.Terms.{if_then_else_, over}
 use Rattle.answers.specs.declared.Place.{Place}
 use Rattle.answers.specs.declared.Span.{Span}
 use Rattle.answers.specs.declared.Refusal.{Refusal}
 use Rattle.answers.specs.declared.Refusal.the-variants.{TooManyRows, NoRoom}
-use Rattle.tokens.specs.declared.Token.{Token}
+use Rattle.kinds.specs.declared.Token.{Token}
 use Rattle.tokens.specs.declared.Raw.{Raw}
 use Rattle.tokens.specs.Tokens.{rawAt}
 use Rattle.tokens.proofs.TokenLaws.{raw-goes}

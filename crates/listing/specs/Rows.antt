@@ -5,8 +5,8 @@ use mathlib.Core.List.{List, [], _∷_, _++_}
 use Rattle.terms.specs.Terms.{if_then_else_}
 use Rattle.answers.specs.declared.Span.{Span}
 use Rattle.answers.specs.declared.Refusal.{Refusal}
-use Rattle.tokens.specs.declared.Token.{Token}
-use Rattle.tokens.specs.Kinds.{kindOf}
+use Rattle.kinds.specs.declared.Token.{Token}
+use Rattle.kinds.specs.Kinds.{kindOf}
 use Rattle.steps.specs.declared.Opened.{Opened}
 use Rattle.steps.specs.Stream.{Tokens, done, stop, token, tokensFrom}
 use Rattle.steps.specs.Steps.{opened, isBlank}

@@ -9,7 +9,7 @@ use Rattle.strings.specs.Decoding.{decoded}
 use Rattle.strings.proofs.Cases as strings
 use Rattle.names.specs.Names.{plainId, explicitId}
 use Rattle.names.proofs.Cases as names
-use Rattle.tokens.specs.Kinds.{kindOf}
+use Rattle.kinds.specs.Kinds.{kindOf}
 use Rattle.steps.specs.Steps.{isBlank}
 use Rattle.steps.specs.Stream.{tokensFrom, tokensBy, afterRaw}
 use Rattle.steps.proofs.Cases as steps

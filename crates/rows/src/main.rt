@@ -1,6 +1,6 @@
 //! rows [--filtered] [--numbers] FILE: the tokens of a WIT file, one a line, up to the first refusal.
 mod characters;
-mod kinds;
+mod kind_names;
 mod lines;
 mod messages;
 mod options;

@@ -1,15 +1,15 @@
 //! The tokens of a text, printed one by one as they are read.
 use crate::characters::shown;
-use crate::kinds::name_of;
+use crate::kind_names::name_of;
 use crate::options::Asked;
 use crate::refusing;
 use answers::Place;
 use answers::Span;
 use files::Out;
+use kinds::Token;
 use steps::Moved;
 use steps::Opened;
 use steps::Step;
-use tokens::Token;
 
 // Where the printing stands.
 pub struct Printed {

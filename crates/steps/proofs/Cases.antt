@@ -11,8 +11,8 @@ use Rattle.answers.specs.Places.{place}
 use Rattle.answers.specs.Caps.{firstOf, lengthVerdict, mapVerdict, textVerdict}
 use Rattle.chars.specs.View.{wellFormed}
 use Rattle.screening.specs.Screening.{offences, offenceOf, screenedBy, screened, invalidInput}
-use Rattle.tokens.specs.declared.Token.{Token}
-use Rattle.tokens.specs.Kinds.{kindOf}
+use Rattle.kinds.specs.declared.Token.{Token}
+use Rattle.kinds.specs.Kinds.{kindOf}
 use Rattle.tokens.proofs.Cases.{at}
 use Rattle.steps.specs.declared.Opened.{Opened}
 use Rattle.steps.specs.declared.Step.{Step}

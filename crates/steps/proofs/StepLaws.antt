@@ -20,7 +20,7 @@ use Rattle.chars.specs.Utf8.{byteAt}
 use Rattle.chars.proofs.Utf8Laws.{byte-in}
 use Rattle.screening.specs.Screening.{invalidInput}
 use Rattle.answers.proofs.CapsLaws.{Fits, text-in, fits-text, first-accepted, first-both, accepted-if}
-use Rattle.tokens.specs.declared.Token.{Token}
+use Rattle.kinds.specs.declared.Token.{Token}
 use Rattle.tokens.specs.declared.Raw.{Raw}
 use Rattle.tokens.specs.Tokens.{rawAt}
 use Rattle.steps.specs.declared.Opened.{Opened}

@@ -13,9 +13,9 @@ use Rattle.answers.specs.Places.{place}
 use Rattle.answers.specs.Caps.{firstOf, textVerdict}
 use Rattle.chars.specs.Utf8.{byteAt}
 use Rattle.screening.specs.Screening.{invalidInput}
-use Rattle.tokens.specs.declared.Token.{Token}
+use Rattle.kinds.specs.declared.Token.{Token}
 use Rattle.tokens.specs.declared.Raw.{Raw}
-use Rattle.tokens.specs.Kinds.{kindOf}
+use Rattle.kinds.specs.Kinds.{kindOf}
 use Rattle.tokens.specs.Tokens.{rawAt}
 use Rattle.steps.specs.declared.Opened.{Opened}
 use Rattle.steps.specs.declared.Step.{Step}

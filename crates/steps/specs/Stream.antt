@@ -5,7 +5,7 @@ use lib.ListN.{length}
 use Rattle.answers.specs.declared.Place.{Place}
 use Rattle.answers.specs.declared.Span.{Span}
 use Rattle.answers.specs.declared.Refusal.{Refusal}
-use Rattle.tokens.specs.declared.Token.{Token}
+use Rattle.kinds.specs.declared.Token.{Token}
 use Rattle.tokens.specs.declared.Raw.{Raw}
 use Rattle.tokens.specs.Tokens.{rawAt}
 

@@ -6,13 +6,13 @@ mod stepping;
 use answers::Place;
 use answers::Refusal;
 use answers::Span;
+use kinds::Token;
 pub use opening::open;
 pub use stepping::check_step;
 pub use stepping::is_blank;
 pub use stepping::next_at;
 pub use stepping::next_raw_at;
 pub use stepping::next_step;
-use tokens::Token;
 
 // What opening answers: the place where the cursor stands, or the refusal.
 pub enum Opened {

@@ -9,11 +9,10 @@ use Rattle.chars.specs.Utf8.{byteAt, leads, leadOf, isTail, charBy, charAt, enc
 use Rattle.chars.specs.View.{placeOf, seenAt, seenBy, charsFrom, folded, foldedAt, foldedFrom}
 use Rattle.chars.specs.Classes.{xidStarts, xidStart, xidContinue, keylikeStart, keylikeContinue}
 use Rattle.strings.specs.Strings.{plainTurn, turnOf, added, gatherOn, gather, firstIll, judged, closedBy, literalOf, stringLiteral}
-use Rattle.tokens.specs.declared.Token.{Token}
+use Rattle.kinds.specs.declared.Token.{Token}
 use Rattle.tokens.specs.declared.Raw.{Raw}
 use Rattle.tokens.specs.declared.Raw.the-variants.{Token as Found, Refused}
-use Rattle.tokens.specs.Kinds.{kindOf}
-use Rattle.tokens.specs.Keywords.{keywords, keyIn, keyword}
+use Rattle.kinds.specs.Keywords.{keywords, keyIn, keyword}
 use Rattle.tokens.specs.Comments.{blank, digit, runBy, run, lineComment, seen, blockTurn, blockOn, blockComment}
 use Rattle.tokens.specs.Tokens.{rules, ruleOf, asToken, slashRule, dashRule, classedBy, percentRule, asWord, asString, lexedBy, spanned, rawOf, rawAt}
 
@@ -210,53 +209,3 @@ dash-word = refl
 pub percent-digit : at (ascii "%1") 0 0 ≡ token Token.ExplicitId 0 1 1
 unfolding at
 percent-digit = refl
-
--- The kind's number of a word.
-unfoldable pub number : List ℕ → ℕ
-unfolding keyword keyIn keywords kindOf sameBytes ascii
-number word = kindOf (keyword word)
-
--- Kinds are numbered as `Token` declares them, and not as the keywords come in the `match`.
-pub record-kind : number (ascii "record") ≡ 34
-unfolding number
-record-kind = refl
-
-pub resource-kind : number (ascii "resource") ≡ 35
-unfolding number
-resource-kind = refl
-
-pub import-kind : number (ascii "import") ≡ 56
-unfolding number
-import-kind = refl
-
-pub export-kind : number (ascii "export") ≡ 57
-unfolding number
-export-kind = refl
-
-pub world-kind : number (ascii "world") ≡ 58
-unfolding number
-world-kind = refl
-
-pub package-kind : number (ascii "package") ≡ 59
-unfolding number
-package-kind = refl
-
-pub id-kind : number (ascii "Use") ≡ 62
-unfolding number
-id-kind = refl
-
-pub include-kind : number (ascii "include") ≡ 65
-unfolding number
-include-kind = refl
-
-pub with-kind : number (ascii "with") ≡ 66
-unfolding number
-with-kind = refl
-
-pub underscore-kind : number (ascii "_") ≡ 50
-unfolding number
-underscore-kind = refl
-
-pub error-context-kind : number (ascii "error-context") ≡ 47
-unfolding number
-error-context-kind = refl

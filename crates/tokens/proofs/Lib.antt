@@ -1,6 +1,4 @@
 -- The laws of the token rules, for the rooms above.
-pub mod KindLaws
-pub mod WordLaws
 pub mod RunLaws
 pub mod CommentLaws
 pub mod TokenLaws

@@ -8,11 +8,7 @@ use ghost.Atoms.{Atoms}
 use contract.Monad.{Fun}
 use Rattle.terms.proofs.OneAnswer.{OneAnswer, agree}
 use Rattle.tokens.proofs.next_raw
-use Rattle.tokens.proofs.Token.kind
 
 module _ {M : Type 1} (𝓤 : URA M) (H : Heap 𝓤) (A : Atoms 𝓤) (mem : Memory → SProp 𝓤) (run : Routine → Fun 𝓤) where
   pub next-raw-one : OneAnswer 𝓤 next_raw.ended (next_raw.clauses 𝓤 H A mem run)
   next-raw-one κs a g z z′ e e′ = agree 𝓤
-
-  pub kind-one : OneAnswer 𝓤 kind.ended (kind.clauses 𝓤 H A mem run)
-  kind-one κs a g z z′ e e′ = agree 𝓤

@@ -34,7 +34,7 @@ use Rattle.tokens.specs.declared.Rule.{Rule}
 use Rattle.tokens.specs.declared.Rule.the-variants.{Blanks, Slash, Dash, Percent, Quote, Digits, Word, Mark, Classed}
 use Rattle.tokens.specs.declared.Raw.{Raw}
 use Rattle.tokens.specs.declared.Raw.the-variants.{Token as Found, End, Refused}
-use Rattle.tokens.specs.declared.Token.{Token}
+use Rattle.kinds.specs.declared.Token.{Token}
 use Rattle.tokens.specs.Comments.{blank, digit, run, lineComment, blockComment}
 use Rattle.tokens.specs.Tokens.{ruleOf, asToken, slashRule, dashRule, classedBy, percentRule, asWord, asString, lexedBy, spanned, rawOf, rawAt}
 use Rattle.tokens.proofs.RunLaws.{run-to}

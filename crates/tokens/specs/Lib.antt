@@ -1,6 +1,4 @@
--- The token rules, in reading order: the kinds, the keywords, comments, and one token.
-pub mod Kinds
-pub mod Keywords
+-- The token rules, in reading order: comments, and one token.
 pub mod Comments
 pub mod Tokens
 -- What no host's contract needs.

@@ -25,8 +25,8 @@ use Rattle.tokens.specs.declared.Rule.{Rule}
 use Rattle.tokens.specs.declared.Rule.the-variants.{Blanks, Slash, Dash, Percent, Quote, Digits, Word, Mark, Classed}
 use Rattle.tokens.specs.declared.Raw.{Raw}
 use Rattle.tokens.specs.declared.Raw.the-variants.{Token as Found, End, Refused}
-use Rattle.tokens.specs.declared.Token.{Token}
-use Rattle.tokens.specs.Keywords.{keyword}
+use Rattle.kinds.specs.declared.Token.{Token}
+use Rattle.kinds.specs.Keywords.{keyword}
 use Rattle.tokens.specs.Comments.{blank, digit, run, lineComment, blockComment}
 
 -- The rule that a first character calls for.

@@ -4,17 +4,16 @@ use crate::Ran;
 use crate::Raw;
 use crate::Rule;
 use crate::Run;
-use crate::Token;
 use crate::comments::block_comment;
 use crate::comments::line_comment;
 use crate::runs::run_from;
 use crate::runs::run_on;
-use crate::words::keyword;
 use answers::Place;
 use answers::Refusal;
 use answers::Span;
 use chars::Class;
 use chars::Read;
+use kinds::Token;
 use strings::Literal;
 ghost use mathlib.Core.Path.{_≡_};
 ghost use Prim.Native.Nat.{_<_, _≤_};
@@ -137,7 +136,7 @@ fn word_rule(text: &[u8], offset: u32, at: Place, next: Place) -> Lexed
         Ran::To(end) => {
             let from = at.0 as usize;
             let to = end.0 as usize;
-            Lexed::As(keyword(&text[from..to]), end)
+            Lexed::As(kinds::keyword(&text[from..to]), end)
         }
         Ran::Stopped(refusal) => Lexed::Not(refusal),
     }

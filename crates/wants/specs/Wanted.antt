@@ -12,7 +12,7 @@ use Rattle.answers.specs.declared.Verdict.the-variants.{Accepted, Refused}
 use Rattle.answers.specs.declared.Refusal.{Refusal}
 use Rattle.answers.specs.Places.{place, inMap}
 use Rattle.answers.specs.Caps.{firstOf}
-use Rattle.tokens.specs.Kinds.{kindOf}
+use Rattle.kinds.specs.Kinds.{kindOf}
 use Rattle.steps.specs.declared.Step.{Step}
 use Rattle.steps.specs.declared.Moved.{Moved}
 use Rattle.steps.specs.Stream.{tokensFrom}

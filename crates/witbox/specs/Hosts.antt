@@ -5,7 +5,7 @@ use Rattle.answers.specs.declared.Span.{Span}
 use Rattle.answers.specs.declared.Refusal.{Refusal}
 use Rattle.answers.specs.declared.Verdict.{Verdict}
 use Rattle.answers.specs.Refusals.{told, toldOf}
-use Rattle.tokens.specs.Kinds.{kindOf}
+use Rattle.kinds.specs.Kinds.{kindOf}
 use Rattle.strings.specs.declared.Decoded.{Decoded}
 use Rattle.names.specs.declared.Named.{Named}
 use Rattle.steps.specs.declared.Opened.{Opened}

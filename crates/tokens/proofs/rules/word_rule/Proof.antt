@@ -1,6 +1,6 @@
 use Prim.Native.Nat.{_≤_}
 use mathlib.Core.Path.{sym, ap, _∙_}
-use Rattle.tokens.specs.declared.Token.{Token}
+use Rattle.kinds.specs.declared.Token.{Token}
 use Rattle.tokens.specs.declared.Lexed.the-variants.{As}
 use native.Mathlib.Omega.{arith}
 use lib.ListN.{length}
