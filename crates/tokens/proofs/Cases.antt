@@ -10,10 +10,10 @@ use Rattle.chars.specs.View.{placeOf, seenAt, seenBy, charsFrom, folded, folded
 use Rattle.chars.specs.Classes.{xidStarts, xidStart, xidContinue, keylikeStart, keylikeContinue}
 use Rattle.strings.specs.Strings.{plainTurn, turnOf, added, gatherOn, gather, firstIll, judged, closedBy, literalOf, stringLiteral}
 use Rattle.kinds.specs.declared.Token.{Token}
+use Rattle.kinds.specs.Keywords.{keywords, keyIn, keyword}
+use Rattle.runs.specs.Comments.{blank, digit, runBy, run, lineComment, seen, blockTurn, blockOn, blockComment}
 use Rattle.tokens.specs.declared.Raw.{Raw}
 use Rattle.tokens.specs.declared.Raw.the-variants.{Token as Found, Refused}
-use Rattle.kinds.specs.Keywords.{keywords, keyIn, keyword}
-use Rattle.tokens.specs.Comments.{blank, digit, runBy, run, lineComment, seen, blockTurn, blockOn, blockComment}
 use Rattle.tokens.specs.Tokens.{rules, ruleOf, asToken, slashRule, dashRule, classedBy, percentRule, asWord, asString, lexedBy, spanned, rawOf, rawAt}
 
 -- The raw token at a place of a text that stands at this offset.

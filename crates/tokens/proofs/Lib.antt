@@ -1,6 +1,4 @@
 -- The laws of the token rules, for the rooms above.
-pub mod RunLaws
-pub mod CommentLaws
 pub mod TokenLaws
 pub mod SettledLaws
 -- The definitions on the cases, and one answer for each contract.

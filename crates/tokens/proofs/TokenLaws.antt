@@ -25,20 +25,20 @@ use Rattle.strings.specs.declared.Literal.the-variants.{Closed, Refused as Refu
 use Rattle.strings.specs.Strings.{stringLiteral}
 use Rattle.strings.proofs.StringLaws.{closing}
 use Rattle.strings.proofs.LocalLaws.{literal-alike}
-use Rattle.tokens.specs.declared.Block.{Block}
-use Rattle.tokens.specs.declared.Ran.{Ran}
-use Rattle.tokens.specs.declared.Ran.the-variants.{To, Stopped}
+use Rattle.kinds.specs.declared.Token.{Token}
+use Rattle.runs.specs.declared.Block.{Block}
+use Rattle.runs.specs.declared.Ran.{Ran}
+use Rattle.runs.specs.declared.Ran.the-variants.{To, Stopped}
+use Rattle.runs.specs.Comments.{blank, digit, run, lineComment, blockComment}
+use Rattle.runs.proofs.RunLaws.{run-to}
+use Rattle.runs.proofs.CommentLaws.{line-to, block-to}
 use Rattle.tokens.specs.declared.Lexed.{Lexed}
 use Rattle.tokens.specs.declared.Lexed.the-variants.{As, Not}
 use Rattle.tokens.specs.declared.Rule.{Rule}
 use Rattle.tokens.specs.declared.Rule.the-variants.{Blanks, Slash, Dash, Percent, Quote, Digits, Word, Mark, Classed}
 use Rattle.tokens.specs.declared.Raw.{Raw}
 use Rattle.tokens.specs.declared.Raw.the-variants.{Token as Found, End, Refused}
-use Rattle.kinds.specs.declared.Token.{Token}
-use Rattle.tokens.specs.Comments.{blank, digit, run, lineComment, blockComment}
 use Rattle.tokens.specs.Tokens.{ruleOf, asToken, slashRule, dashRule, classedBy, percentRule, asWord, asString, lexedBy, spanned, rawOf, rawAt}
-use Rattle.tokens.proofs.RunLaws.{run-to}
-use Rattle.tokens.proofs.CommentLaws.{line-to, block-to}
 
 as-is : {j k : Token} {m n : Place} → As j m ≡ As k n → m ≡ n
 as-is e = cc

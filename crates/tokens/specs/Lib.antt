@@ -1,5 +1,4 @@
--- The token rules, in reading order: comments, and one token.
-pub mod Comments
+-- The token rules: one token.
 pub mod Tokens
 -- What no host's contract needs.
 pub mod inner

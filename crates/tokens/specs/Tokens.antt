@@ -16,18 +16,18 @@ use Rattle.chars.specs.Classes.{keylikeStart, keylikeContinue}
 use Rattle.strings.specs.declared.Literal.{Literal}
 use Rattle.strings.specs.declared.Literal.the-variants.{Closed, Refused as Refused′}
 use Rattle.strings.specs.Strings.{stringLiteral}
-use Rattle.tokens.specs.declared.Block.{Block}
-use Rattle.tokens.specs.declared.Ran.{Ran}
-use Rattle.tokens.specs.declared.Ran.the-variants.{To, Stopped}
+use Rattle.kinds.specs.declared.Token.{Token}
+use Rattle.kinds.specs.Keywords.{keyword}
+use Rattle.runs.specs.declared.Block.{Block}
+use Rattle.runs.specs.declared.Ran.{Ran}
+use Rattle.runs.specs.declared.Ran.the-variants.{To, Stopped}
+use Rattle.runs.specs.Comments.{blank, digit, run, lineComment, blockComment}
 use Rattle.tokens.specs.declared.Lexed.{Lexed}
 use Rattle.tokens.specs.declared.Lexed.the-variants.{As, Not}
 use Rattle.tokens.specs.declared.Rule.{Rule}
 use Rattle.tokens.specs.declared.Rule.the-variants.{Blanks, Slash, Dash, Percent, Quote, Digits, Word, Mark, Classed}
 use Rattle.tokens.specs.declared.Raw.{Raw}
 use Rattle.tokens.specs.declared.Raw.the-variants.{Token as Found, End, Refused}
-use Rattle.kinds.specs.declared.Token.{Token}
-use Rattle.kinds.specs.Keywords.{keyword}
-use Rattle.tokens.specs.Comments.{blank, digit, run, lineComment, blockComment}
 
 -- The rule that a first character calls for.
 unfoldable pub rules : List (Row Rule)

@@ -1,7 +1,5 @@
-//! One raw token at a plain place of a text: the choice of the rule by the first character, runs, comments, words, strings.
-mod comments;
+//! One raw token at a plain place of a text: the choice of the rule by the first character, and what the rule makes of it.
 mod rules;
-mod runs;
 
 use answers::Place;
 use answers::Refusal;
@@ -29,27 +27,6 @@ pub enum Raw {
     Token(Token, Span, Place),
     End,
     Refused(Refusal),
-}
-
-// The runs that rules take: of blanks, of digits, and of keylike continuations.
-pub enum Run {
-    Blanks,
-    Digits,
-    Keylike,
-}
-
-// Where in a block comment the walk stands: how deep, and whether a `/` or a `*` that no pair has eaten came last.
-pub enum Block {
-    Other(u32),
-    Slash(u32),
-    Star(u32),
-    Closed,
-}
-
-// Where a run or a comment ends: the place where the rest begins, or a refusal.
-pub enum Ran {
-    To(Place),
-    Stopped(Refusal),
 }
 
 // What a rule makes of a token: its kind and the place behind it, or a refusal.

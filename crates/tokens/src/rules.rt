@@ -1,29 +1,25 @@
 //! One raw token: the rule that its first character calls for, and what the rule makes of it.
 use crate::Lexed;
-use crate::Ran;
 use crate::Raw;
 use crate::Rule;
-use crate::Run;
-use crate::comments::block_comment;
-use crate::comments::line_comment;
-use crate::runs::run_from;
-use crate::runs::run_on;
 use answers::Place;
 use answers::Refusal;
 use answers::Span;
 use chars::Class;
 use chars::Read;
 use kinds::Token;
+use runs::Ran;
+use runs::Run;
 use strings::Literal;
 ghost use mathlib.Core.Path.{_≡_};
 ghost use Prim.Native.Nat.{_<_, _≤_};
 ghost use lib.ListN.{length};
 ghost use Rattle.chars.specs.View.{foldedFrom};
-ghost use Rattle.tokens.specs.Comments.{run};
 ghost use Rattle.answers.specs.Places.{inMap};
 ghost use Rattle.chars.specs.Classes.{keylikeStart};
+ghost use Rattle.runs.specs.Comments.{run};
+ghost use Rattle.runs.specs.inner.Runs.{classOf};
 ghost use Rattle.tokens.specs.Tokens.{ruleOf, asToken, slashRule, dashRule, classedBy, percentRule, asWord, asString, lexedBy, spanned, rawAt};
-ghost use Rattle.tokens.specs.inner.Runs.{classOf};
 ghost use Rattle.tokens.specs.inner.Settled.{ruleBy, settled};
 
 // The rule that a first character calls for: one choice over character numbers and ranges.
@@ -78,11 +74,11 @@ fn slash_rule(text: &[u8], offset: u32, at: Place, next: Place) -> Lexed
         Read::Ill(ill) => Lexed::Not(Refusal::IllFormed(ill)),
         Read::Char(c, behind) => {
             if c == 47 {
-                return as_token(Token::Comment, line_comment(text, behind));
+                return as_token(Token::Comment, runs::line_comment(text, behind));
             }
             if c == 42 {
                 let start = answers::in_map(offset, at);
-                return as_token(Token::Comment, block_comment(text, start, behind));
+                return as_token(Token::Comment, runs::block_comment(text, start, behind));
             }
             Lexed::As(Token::Slash, next)
         }
@@ -116,7 +112,7 @@ fn percent_rule(text: &[u8], offset: u32, next: Place) -> Lexed
             Class::Inside => {
                 as_token(
                     Token::ExplicitId,
-                    run_on(text, offset, behind, Run::Keylike),
+                    runs::run_on(text, offset, behind, Run::Keylike),
                 )
             }
             Class::Outside => Lexed::As(Token::ExplicitId, next),
@@ -132,7 +128,7 @@ fn word_rule(text: &[u8], offset: u32, at: Place, next: Place) -> Lexed
     requires { ⌜ (at .0 ≤ next .0) × (next .0 ≤ length (now text)) ⌝ }
     ensures { λ r. ⌜ r ≡ asWord (now (text .entry)) at (run (classOf Run.Keylike) offset (foldedFrom (now (text .entry)) next)) ⌝ }
 {
-    match run_from(text, offset, next, Run::Keylike) {
+    match runs::run_from(text, offset, next, Run::Keylike) {
         Ran::To(end) => {
             let from = at.0 as usize;
             let to = end.0 as usize;
@@ -201,7 +197,10 @@ fn lexed_by(text: &[u8], offset: u32, at: Place, c: u32, next: Place) -> Lexed
     ensures { λ r. ⌜ r ≡ lexedBy (ruleOf c) (now (text .entry)) offset at c (foldedFrom (now (text .entry)) next) ⌝ }
 {
     match settled_rule(c) {
-        Rule::Blanks => as_token(Token::Whitespace, run_from(text, offset, next, Run::Blanks)),
+        Rule::Blanks => as_token(
+            Token::Whitespace,
+            runs::run_from(text, offset, next, Run::Blanks),
+        ),
         Rule::Slash => slash_rule(text, offset, at, next),
         Rule::Dash => dash_rule(text, next),
         Rule::Percent => percent_rule(text, offset, next),
@@ -209,7 +208,10 @@ fn lexed_by(text: &[u8], offset: u32, at: Place, c: u32, next: Place) -> Lexed
             let start = answers::in_map(offset, at);
             as_string(strings::expect_string_literal(text, offset, start, next))
         }
-        Rule::Digits => as_token(Token::Integer, run_from(text, offset, next, Run::Digits)),
+        Rule::Digits => as_token(
+            Token::Integer,
+            runs::run_from(text, offset, next, Run::Digits),
+        ),
         Rule::Word => word_rule(text, offset, at, next),
         Rule::Mark(kind) => Lexed::As(kind, next),
         Rule::Classed => no_rule(offset, at, c),

@@ -2,7 +2,7 @@ use mathlib.Core.Path.{_≡_, sym, _∙_}
 use Rattle.chars.specs.View.{foldedFrom}
 use Rattle.tokens.specs.Tokens.{ruleOf, lexedBy}
 use Rattle.tokens.proofs.SettledLaws.{settled-same, settled-not}
-use Rattle.tokens.specs.inner.Runs.{classOf}
+use Rattle.runs.specs.inner.Runs.{classOf}
 use Rattle.chars.proofs.ViewLaws.{folded-place}
 use borrow.Author.Needs.{needs}
 use Rattle.tokens.proofs.rules.lexed_by.Statement.{statement}

@@ -1,7 +1,7 @@
 use mathlib.Core.Path.{sym, _∙_}
 use Rattle.chars.proofs.ViewLaws.{folded-end, folded-ill, folded-char}
 use Rattle.tokens.specs.Tokens.{percentRule, classedBy}
-use Rattle.tokens.specs.inner.Runs.{classOf}
+use Rattle.runs.specs.inner.Runs.{classOf}
 use borrow.Author.Needs.{needs}
 use Rattle.tokens.proofs.rules.percent_rule.Statement.{statement}
 use Rattle.tokens.proofs.rules.percent_rule.Tie as tie

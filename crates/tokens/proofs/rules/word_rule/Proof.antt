@@ -5,7 +5,7 @@ use Rattle.tokens.specs.declared.Lexed.the-variants.{As}
 use native.Mathlib.Omega.{arith}
 use lib.ListN.{length}
 use Rattle.tokens.specs.Tokens.{asWord}
-use Rattle.tokens.proofs.RunLaws.{run-to}
+use Rattle.runs.proofs.RunLaws.{run-to}
 use borrow.Author.Needs.{needs}
 use Rattle.tokens.proofs.rules.word_rule.Statement.{statement}
 use Rattle.tokens.proofs.rules.word_rule.Tie as tie

@@ -1,0 +1,23 @@
+use borrow.Author.Tests.{eq-eqb, ne-eqb}
+use Rattle.runs.specs.Comments.{blank}
+use Rattle.runs.proofs.runs.blank_class.Statement.{statement}
+use Rattle.runs.proofs.runs.blank_class.Tie as tie
+
+returns : tie.Need-returns
+unfolding blank
+returns c = rw (eq-eqb _ _ (c .if1 .taken))
+
+returns-2 : tie.Need-returns-2
+unfolding blank
+returns-2 c = rw (ne-eqb _ _ (c .before .if1 .left), eq-eqb _ _ (c .if2 .taken))
+
+returns-3 : tie.Need-returns-3
+unfolding blank
+returns-3 c = rw (ne-eqb _ _ (c .before .before .if1 .left), ne-eqb _ _ (c .before .if2 .left), eq-eqb _ _ (c .if3 .taken))
+
+returns-4 : tie.Need-returns-4
+unfolding blank
+returns-4 c = rw (ne-eqb _ _ (c .before .before .if1 .left), ne-eqb _ _ (c .before .if2 .left), ne-eqb _ _ (c .if3 .left))
+
+pub blank-class-spec : {M : Type 1} → statement M
+blank-class-spec = tie.close (tie.spec returns returns-2 returns-3 returns-4)

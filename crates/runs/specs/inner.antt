@@ -1,0 +1,2 @@
+-- What no host's contract needs.
+pub mod Runs
