@@ -8,7 +8,8 @@ use Rattle.answers.specs.Refusals.{told}
 use Rattle.answers.specs.Caps.{firstOf, lengthVerdict, mapVerdict, textVerdict}
 use Rattle.chars.specs.Utf8.{byteAt, leads, leadOf, isTail, charBy, charAt}
 use Rattle.chars.specs.View.{seenAt, seenBy, charsFrom}
-use Rattle.names.specs.Names.{cut, spanVerdict, percentVerdict, letters, letterOf, stepBy, endedBy, stepped, partsFrom, plainVerdict, explicitVerdict, namedBy, plainId, explicitId, handed}
+use Rattle.parts.specs.Parts.{letters, letterOf, stepBy, endedBy, stepped, partsFrom}
+use Rattle.names.specs.Names.{cut, spanVerdict, percentVerdict, plainVerdict, explicitVerdict, namedBy, plainId, explicitId, handed}
 
 abbrev pub span : ℕ → ℕ → Span
 span from last = record { start = record { 0 = from }; end = record { 0 = last } }

@@ -1,6 +1,5 @@
--- The laws of identifiers.
+-- Where an identifier lies.
 pub mod NameLaws
-pub mod OneCaseLaws
 -- The definitions on the cases, and one answer for each contract.
 pub mod Cases
 pub mod OneAnswer

@@ -1,15 +1,14 @@
 //! The identifier that a span names: its checks in their order, and what is handed back.
 use crate::Named;
-use crate::one_case::one_case;
-use crate::parts::check_parts;
 use answers::Place;
 use answers::Refusal;
 use answers::Span;
 use answers::Verdict;
+use parts::check_parts;
 ghost use mathlib.Core.Path.{_≡_};
 ghost use Prim.Native.Nat.{_≤_};
 ghost use Rattle.answers.specs.declared.Place.{Place};
-ghost use Rattle.names.specs.inner.Runs.{Within};
+ghost use Rattle.names.specs.inner.Within.{Within};
 ghost use Rattle.names.specs.Names.{cut, spanVerdict, percentVerdict, namedBy, plainId, explicitId, handed};
 
 // A cut before a byte 80 to BF.
@@ -83,9 +82,6 @@ pub fn validate_id(text: &[u8], offset: u32, span: Span) -> Named
     let end = span.end;
     let first = Place(start.0 - offset);
     let last = Place(end.0 - offset);
-    if one_case(text, first, last) {
-        return Named::Id(first, last);
-    }
     named_by(check_parts(text, start, first, last), first, last)
 }
 
@@ -106,9 +102,6 @@ pub fn validate_explicit_id(text: &[u8], offset: u32, span: Span) -> Named
     let end = span.end;
     let first = Place(start.0 - offset + 1);
     let last = Place(end.0 - offset);
-    if one_case(text, first, last) {
-        return Named::Id(first, last);
-    }
     named_by(check_parts(text, start, first, last), first, last)
 }
 

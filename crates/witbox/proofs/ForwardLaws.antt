@@ -5,7 +5,7 @@ use mathlib.Core.List.{List}
 use Rattle.answers.specs.declared.Span.{Span}
 use Rattle.names.specs.declared.Named.{Named}
 use Rattle.names.specs.Names.{plainId, explicitId}
-use Rattle.names.specs.inner.Runs.{Within}
+use Rattle.names.specs.inner.Within.{Within}
 use Rattle.names.proofs.NameLaws.{plain-within, explicit-within}
 use Rattle.witbox.specs.inner.Forward.{Forward}
 
