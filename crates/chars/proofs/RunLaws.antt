@@ -1,17 +1,17 @@
 -- A run of bytes of one set is as many characters, of one byte each.
-use Prim.Native.Nat.{ℕ, zero, suc, _+_, _-_, _*_, _/_, _%_, _^_, _≤_, _<_, min}
-use mathlib.Core.Path.{_≡_, refl, sym, ap, _∙_}
-use mathlib.Core.Bool.{Bool, true, false, not, _&&_, _||_}
+use Prim.Native.Nat.{ℕ, _-_, _/_, _%_, _^_, _≤_, _<_, min}
+use mathlib.Core.Path.{_≡_, refl, ap}
+use mathlib.Core.Bool.{Bool, true, false, not, _||_}
 use mathlib.Core.List.{List}
 use native.Mathlib.Omega.{arith}
 use lib.Dec.{ltb, eqb}
-use lib.ListN.{length, getD}
-use borrow.Author.Tests.{ltb-true, eqb-true, eqb-false, not-true, not-false}
+use lib.ListN.{length}
+use borrow.Author.Tests.{ltb-true, not-true, not-false}
 use Rattle.terms.specs.Terms.{if_then_else_, first}
-use Rattle.terms.proofs.TestLaws.{and-both, clash}
+use Rattle.terms.proofs.TestLaws.{clash}
+use Rattle.terms.proofs.BelowLaws.{allBelow, below}
 use Rattle.terms.proofs.FirstLaws.{first-le, first-from, first-passes}
 use Rattle.answers.specs.declared.Place.{Place}
-use Rattle.answers.specs.Places.{place}
 use Rattle.answers.specs.Caps.{cap}
 use Rattle.chars.specs.Utf8.{byteAt, onBy, charAt}
 use Rattle.chars.specs.View.{foldedAt}
@@ -23,7 +23,7 @@ use Rattle.chars.proofs.ViewLaws.{folded-ascii-at}
 use Rattle.chars.proofs.SeekLaws.{seek-steps}
 
 -- the bytes of a set are below 0x80
-in-set-low : (set : AsciiSet) (b : ℕ) → inSet set b ≡ true → b < 0x80
+pub in-set-low : (set : AsciiSet) (b : ℕ) → inSet set b ≡ true → b < 0x80
 unfolding inSet
 in-set-low set b e = go (ltb b 64) refl (ltb b 128) refl e
   where
@@ -71,22 +71,6 @@ module _ (s : List ℕ) (set : AsciiSet) (p : Place) where
       run-steps F (λ q m h k. one q m (folded-ascii-at s q h k (in-set-low set _ m) (λ e. clash (inSet set 13) (rw (← e) m) no-cr)))
 
 -- a fact about every byte of a set is computed once, over the 128 bytes that a set may have
-unfoldable pub allBelow : ℕ → (ℕ → Bool) → Bool
-allBelow zero test = true
-allBelow (suc n) test = test n && allBelow n test
-
-pub below : (n : ℕ) (test : ℕ → Bool) → allBelow n test ≡ true → (b : ℕ) → b < n → test b ≡ true
-unfolding allBelow
-below zero test e b h = absurd (omega arith)
-below (suc n) test e b h = go (eqb b n) refl (below n test (parts .1) b)
-  where
-    parts : (test n ≡ true) × (allBelow n test ≡ true)
-    parts = and-both (test n) (allBelow n test) e
-
-    go : (t : Bool) → eqb b n ≡ t → (b < n → test b ≡ true) → test b ≡ true
-    go true q ih = rw (eqb-true b n q) (parts .0)
-    go false q ih = ih (omega (arith, eqb-false b n q))
-
 pub each-of-set : (set : AsciiSet) (test : ℕ → Bool) → allBelow 128 (λ b. not (inSet set b) || test b) ≡ true
     → (b : ℕ) → inSet set b ≡ true → test b ≡ true
 each-of-set set test all b h = go (inSet set b) h (below 128 (λ (x : ℕ). not (inSet set x) || test x) all b (in-set-low set b h))

@@ -8,6 +8,7 @@ use lib.Dec.{leb, eqb}
 use borrow.Author.Tests.{le-leb, lt-leb, leb-true, leb-false, eqb-true}
 use Rattle.terms.specs.Terms.{if_then_else_, said, within}
 use Rattle.terms.proofs.TestLaws.{clash}
+use Rattle.terms.proofs.BelowLaws.{allBelow}
 use Rattle.answers.specs.declared.Place.{Place}
 use Rattle.answers.specs.declared.Position.{Position}
 use Rattle.answers.specs.declared.Ill.{Ill as Sequence}
@@ -20,7 +21,7 @@ use Rattle.chars.specs.View.{charsFrom}
 use Rattle.chars.specs.inner.Runs.{inSet, runEnd}
 use Rattle.chars.proofs.Utf8Laws.{ill-at}
 use Rattle.chars.proofs.ViewLaws.{chars-end, chars-ill, chars-char}
-use Rattle.chars.proofs.RunLaws.{run-strides-plain, allBelow, each-of-set}
+use Rattle.chars.proofs.RunLaws.{run-strides-plain, each-of-set}
 use Rattle.parts.specs.declared.Letter.{Letter}
 use Rattle.parts.specs.declared.Part.{Part}
 use Rattle.parts.specs.declared.Step.{Step}

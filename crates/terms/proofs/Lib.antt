@@ -1,5 +1,6 @@
 -- The laws of `specs/Terms.antt`, for the rooms above.
 pub mod TestLaws
+pub mod BelowLaws
 pub mod TableLaws
 pub mod FirstLaws
 pub mod CountLaws

@@ -1,0 +1,3 @@
+-- What no host's contract needs.
+pub mod Search
+pub mod Runs
