@@ -2,3 +2,5 @@
 pub mod CapsLaws
 -- One answer for each contract.
 pub mod OneAnswer
+-- No refusal has the number 9.
+pub mod Retired

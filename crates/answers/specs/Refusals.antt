@@ -1,4 +1,4 @@
--- 01, "Numbers that come back", and 33 of 02, §6: the number, the position and the detail of each answer.
+-- 01, "Numbers that come back", 33 of 02, §6, and no 9 by 02, §3: the number, the position and the detail of each answer.
 use Prim.Native.Nat.{ℕ, _+_, _*_}
 use Rattle.answers.specs.declared.Numbers.{Numbers}
 use Rattle.answers.specs.declared.Verdict.{Verdict}
@@ -19,7 +19,6 @@ told (Refusal.DeprecatedCodepoint place c) = row 5 (place .0) c
 told (Refusal.ForbiddenCodepoint place c) = row 6 (place .0) c
 told (Refusal.Unexpected map c) = row 7 (map .0) c
 told (Refusal.UnterminatedComment map) = row 8 (map .0) 0
-told (Refusal.Unclassified map c) = row 9 (map .0) c
 told (Refusal.InvalidStringElement place c) = row 10 (place .0) c
 told (Refusal.InvalidStringEscape place c) = row 11 (place .0) c
 told (Refusal.WantedChar place c) = row 12 (place .0) c

@@ -22,7 +22,7 @@ pub struct Ill {
     pub at: Place,
 }
 
-// Why a call refuses, in the order of the paper's numbers, 1 to 30 and 33. Where lex.rs has an error of that meaning, the name is its.
+// Why a call refuses, in the order of the paper's numbers, 1 to 30 without 9, and 33. Where lex.rs has an error of that meaning, the name is its.
 pub enum Refusal {
     TooLong(u32),
     OutOfMap,
@@ -32,7 +32,6 @@ pub enum Refusal {
     ForbiddenCodepoint(Place, u32),
     Unexpected(Position, u32),
     UnterminatedComment(Position),
-    Unclassified(Position, u32),
     InvalidStringElement(Place, u32),
     InvalidStringEscape(Place, u32),
     WantedChar(Place, u32),
@@ -138,7 +137,6 @@ impl Refusal {
             Refusal::ForbiddenCodepoint(at, c) => row(6, at.0, c),
             Refusal::Unexpected(at, c) => row(7, at.0, c),
             Refusal::UnterminatedComment(at) => row(8, at.0, 0),
-            Refusal::Unclassified(at, c) => row(9, at.0, c),
             Refusal::InvalidStringElement(at, c) => row(10, at.0, c),
             Refusal::InvalidStringEscape(at, c) => row(11, at.0, c),
             Refusal::WantedChar(at, c) => row(12, at.0, c),

@@ -12,10 +12,6 @@ use Rattle.chars.proofs.lead_of
 use Rattle.chars.proofs.read_at
 use Rattle.chars.proofs.single_at
 use Rattle.chars.proofs.folded_at
-use Rattle.chars.proofs.xid_start
-use Rattle.chars.proofs.xid_continue
-use Rattle.chars.proofs.is_keylike_start
-use Rattle.chars.proofs.is_keylike_continue
 use Rattle.chars.proofs.to_hex
 use Rattle.chars.proofs.limit
 use Rattle.chars.proofs.run_end
@@ -35,18 +31,6 @@ module _ {M : Type 1} (𝓤 : URA M) (H : Heap 𝓤) (A : Atoms 𝓤) (mem : Mem
 
   pub folded-at-one : OneAnswer 𝓤 folded_at.ended (folded_at.clauses 𝓤 H A mem run)
   folded-at-one κs a g z z′ e e′ = agree 𝓤
-
-  pub xid-start-one : OneAnswer 𝓤 xid_start.ended (xid_start.clauses 𝓤 H A mem run)
-  xid-start-one κs a g z z′ e e′ = agree 𝓤
-
-  pub xid-continue-one : OneAnswer 𝓤 xid_continue.ended (xid_continue.clauses 𝓤 H A mem run)
-  xid-continue-one κs a g z z′ e e′ = agree 𝓤
-
-  pub is-keylike-start-one : OneAnswer 𝓤 is_keylike_start.ended (is_keylike_start.clauses 𝓤 H A mem run)
-  is-keylike-start-one κs a g z z′ e e′ = agree 𝓤
-
-  pub is-keylike-continue-one : OneAnswer 𝓤 is_keylike_continue.ended (is_keylike_continue.clauses 𝓤 H A mem run)
-  is-keylike-continue-one κs a g z z′ e e′ = agree 𝓤
 
   pub to-hex-one : OneAnswer 𝓤 to_hex.ended (to_hex.clauses 𝓤 H A mem run)
   to-hex-one κs a g z z′ e e′ = agree 𝓤

@@ -1,6 +1,6 @@
--- The character rules, in reading order: what bytes read as, the text as a view, and classes.
+-- The character rules, in reading order: what bytes read as, the text as a view, and hexadecimal digits.
 pub mod Utf8
 pub mod View
-pub mod Classes
--- What only inner contracts cite.
+pub mod Hex
+-- What no host's contract needs.
 pub mod inner

@@ -1,16 +1,12 @@
-//! The character rules: what the bytes of a text read as (RFC 3629), runs of bytes, and the classes of characters.
+//! The character rules: what the bytes of a text read as (RFC 3629), runs of bytes, and hexadecimal digits.
 //! The rooms above rest on these promises alone. Of the functions, `run_end`, `limit` and `single_at` are for those rooms; no host needs them.
-mod classes;
+mod hex;
 mod reading;
 mod runs;
 
 use answers::Ill;
 use answers::Place;
-pub use classes::is_keylike_continue;
-pub use classes::is_keylike_start;
-pub use classes::to_hex;
-pub use classes::xid_continue;
-pub use classes::xid_start;
+pub use hex::to_hex;
 pub use reading::byte_at;
 pub use reading::folded_at;
 pub use reading::lead_of;
@@ -33,13 +29,6 @@ pub enum Lead {
     Three(u32, u32),
     Four(u32, u32),
     Never,
-}
-
-// Whether a character is of a class; above U+02C1 that is not known.
-pub enum Class {
-    Inside,
-    Outside,
-    Unknown,
 }
 
 // A set of bytes below 0x80: bit b of `low` for a byte b below 64, bit b - 64 of `high` for any other.

@@ -16,7 +16,7 @@ impl Out {
             a character that overrides the direction of text\n\
             a character that begins no token\n\
             a block comment that does not end\n\
-            a character above U+02C1 where a name or a mark could stand\n\
+            a number that is not given any more\n\
             a character that no string may hold as it is\n\
             a backslash with no escape behind it\n\
             something else, where this is wanted\n\

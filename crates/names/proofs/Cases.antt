@@ -44,10 +44,10 @@ pub without-percent : explicit (ascii "%a") 5 5 7 ≡ (ascii "a", 0 ∷ 0 ∷ 0 
 unfolding explicit
 without-percent = refl
 
--- CE BB: a character above U+02C1 is 20, never 9.
-pub never-unclassified : plain (0xCE ∷ 0xBB ∷ []) 5 5 7 ≡ ([], 20 ∷ 5 ∷ 955 ∷ [])
+-- CE BB: a letter of another script is 20.
+pub other-script : plain (0xCE ∷ 0xBB ∷ []) 5 5 7 ≡ ([], 20 ∷ 5 ∷ 955 ∷ [])
 unfolding plain
-never-unclassified = refl
+other-script = refl
 
 -- `x%a-`, the span of `%a-`: 19 stands at the span's start, the `%` included,
 pub empty-at-start : explicit (ascii "x%a-") 5 6 9 ≡ ([], 19 ∷ 6 ∷ 0 ∷ [])

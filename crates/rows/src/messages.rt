@@ -20,7 +20,7 @@ pub(crate) fn message(out: Out, told: Numbers) -> Out {
     let number = told.number;
     let said = out.message(number);
     match number {
-        4..=7 | 9..=12 | 17 => named(said, told.detail),
+        4..=7 | 10..=12 | 17 => named(said, told.detail),
         14 => said.text(b": byte ").number(told.detail as u64),
         18 => hex(said.text(b": "), told.detail),
         _ => said,

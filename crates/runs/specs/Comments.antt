@@ -1,43 +1,28 @@
 -- 01, "Tokens": runs, and comments. Each rule goes over the characters from a place on, and answers the place where the rest begins, or a refusal.
 use Prim.Native.Nat.{ℕ, _+_, _-_}
-use mathlib.Core.Bool.{Bool, true, false, _||_}
+use mathlib.Core.Bool.{Bool, _||_}
 use lib.Dec.{eqb}
 use Rattle.terms.specs.Terms.{if_then_else_, within}
-use Rattle.answers.specs.declared.Place.{Place}
 use Rattle.answers.specs.declared.Position.{Position}
-use Rattle.answers.specs.declared.Refusal.{Refusal}
-use Rattle.answers.specs.declared.Refusal.the-variants.{IllFormed, UnterminatedComment, Unclassified}
-use Rattle.answers.specs.Places.{inMap}
-use Rattle.chars.specs.declared.Class.{Class}
-use Rattle.chars.specs.declared.Class.the-variants.{Inside, Outside, Unknown}
+use Rattle.answers.specs.declared.Refusal.the-variants.{IllFormed, UnterminatedComment}
 use Rattle.chars.specs.View.{Chars, end, ill, char, placeOf}
 use Rattle.runs.specs.declared.Block.{Block}
 use Rattle.runs.specs.declared.Ran.{Ran}
 use Rattle.runs.specs.declared.Ran.the-variants.{To, Stopped}
 
--- A character that a yes or no decides on, as a class.
-abbrev pub plainly : Bool → Class
-plainly t = if t then Inside else Outside
-
 -- Newline, tab, space.
-unfoldable pub blank : ℕ → Class
-blank c = plainly (eqb c 10 || (eqb c 9 || eqb c 32))
+unfoldable pub blank : ℕ → Bool
+blank c = eqb c 10 || (eqb c 9 || eqb c 32)
 
 -- ASCII digits.
-unfoldable pub digit : ℕ → Class
-digit c = plainly (within 48 57 c)
+unfoldable pub digit : ℕ → Bool
+digit c = within 48 57 c
 
--- A run goes on inside the class, ends outside it, and is refused where the class is not known: 9.
-unfoldable pub runBy : Class → ℕ → Place → ℕ → Ran → Ran
-runBy Inside o p c rest = rest
-runBy Outside o p c rest = To p
-runBy Unknown o p c rest = Stopped (Unclassified (inMap o p) c)
-
--- A longest run: the character that ends it is examined too.
-unfoldable pub run : (ℕ → Class) → ℕ → Chars → Ran
-run class o (end p) = To p
-run class o (ill i) = Stopped (IllFormed i)
-run class o (char p c v) = runBy (class c) o p c (run class o v)
+-- A longest run of characters of a class: the character that ends it is examined too.
+unfoldable pub run : (ℕ → Bool) → Chars → Ran
+run class (end p) = To p
+run class (ill i) = Stopped (IllFormed i)
+run class (char p c v) = if class c then run class v else To p
 
 -- Behind `//`: up to and with the next newline, or to the end.
 unfoldable pub lineComment : Chars → Ran

@@ -4,47 +4,36 @@ use crate::Run;
 use answers::Place;
 use answers::Refusal;
 use chars::AsciiSet;
-use chars::Class;
 use chars::Read;
 ghost use mathlib.Core.Path.{_≡_};
 ghost use Rattle.chars.specs.View.{foldedFrom};
 ghost use Rattle.runs.specs.Comments;
-ghost use Rattle.runs.specs.Comments.{blank, digit};
-ghost use Rattle.runs.specs.inner.Runs.{classOf, setOf};
+ghost use Rattle.runs.specs.Comments.{blank};
+ghost use Rattle.runs.specs.inner.Runs.{classOf, passedOver, setOf};
 
 // Newline, tab, space.
-fn blank_class(c: u32) -> Class
+fn is_blank(c: u32) -> bool
     ensures { λ r. ⌜ r ≡ blank c ⌝ }
 {
     if c == 10 {
-        return Class::Inside;
+        return true;
     }
     if c == 9 {
-        return Class::Inside;
+        return true;
     }
     if c == 32 {
-        return Class::Inside;
+        return true;
     }
-    Class::Outside
+    false
 }
 
-// ASCII digits.
-fn digit_class(c: u32) -> Class
-    ensures { λ r. ⌜ r ≡ digit c ⌝ }
-{
-    if terms::within(48, 57, c) {
-        return Class::Inside;
-    }
-    Class::Outside
-}
-
-fn class_of(run: Run, c: u32) -> Class
+fn in_class(run: Run, c: u32) -> bool
     ensures { λ r. ⌜ r ≡ classOf run c ⌝ }
 {
     match run {
-        Run::Blanks => blank_class(c),
-        Run::Digits => digit_class(c),
-        Run::Keylike => chars::is_keylike_continue(c),
+        Run::Blanks => is_blank(c),
+        Run::Digits => terms::within(48, 57, c),
+        Run::Keylike => classes::is_keylike_continue(c),
     }
 }
 
@@ -68,11 +57,28 @@ fn set_of(run: Run) -> AsciiSet
     }
 }
 
-// Where a run from a place on ends: at the end, at a character outside its class, or in a refusal.
-pub fn run_on(text: &[u8], offset: u32, from: Place, run: Run) -> Ran
-    ensures { λ r. ⌜ r ≡ Comments.run (classOf run) offset (foldedFrom (now (text .entry)) from) ⌝ }
+// Where a run is looked at character by character. A byte below 0xCB starts no character above U+02BF, and those need no table; behind
+// another, all of the word is passed over by one call, which lends its tables once.
+fn passed_over(text: &[u8], from: Place, run: Run) -> Place
+    ensures { λ r. ⌜ r ≡ passedOver run (now (text .entry)) from ⌝ }
 {
-    let mut at = from;
+    match run {
+        Run::Blanks => from,
+        Run::Digits => from,
+        Run::Keylike => {
+            if chars::byte_at(text, from) < 0xCB {
+                return from;
+            }
+            classes::keylike_end(text, from)
+        }
+    }
+}
+
+// Where a run from a place on ends: at the end, at a character outside its class, or in a refusal.
+pub fn run_on(text: &[u8], from: Place, run: Run) -> Ran
+    ensures { λ r. ⌜ r ≡ Comments.run (classOf run) (foldedFrom (now (text .entry)) from) ⌝ }
+{
+    let mut at = passed_over(text, from, run);
     loop {
         match chars::folded_at(text, at) {
             Read::End => {
@@ -81,28 +87,24 @@ pub fn run_on(text: &[u8], offset: u32, from: Place, run: Run) -> Ran
             Read::Ill(ill) => {
                 return Ran::Stopped(Refusal::IllFormed(ill));
             }
-            Read::Char(c, next) => match class_of(run, c) {
-                Class::Inside => {
+            Read::Char(c, next) => {
+                if in_class(run, c) {
                     at = next;
-                }
-                Class::Outside => {
+                } else {
                     return Ran::To(at);
                 }
-                Class::Unknown => {
-                    return Ran::Stopped(Refusal::Unclassified(answers::in_map(offset, at), c));
-                }
-            },
+            }
         }
     }
 }
 
 // The same for a run that is likely to have only bytes of its set: a byte that reads as itself and is not of the set is outside the class.
-pub fn run_from(text: &[u8], offset: u32, from: Place, run: Run) -> Ran
-    ensures { λ r. ⌜ r ≡ Comments.run (classOf run) offset (foldedFrom (now (text .entry)) from) ⌝ }
+pub fn run_from(text: &[u8], from: Place, run: Run) -> Ran
+    ensures { λ r. ⌜ r ≡ Comments.run (classOf run) (foldedFrom (now (text .entry)) from) ⌝ }
 {
     let at = chars::run_end(text, from, set_of(run));
     if chars::single_at(text, at) {
         return Ran::To(at);
     }
-    run_on(text, offset, at, run)
+    run_on(text, at, run)
 }

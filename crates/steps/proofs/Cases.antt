@@ -75,13 +75,13 @@ unfoldable pub next : List ℕ → ℕ → Moved
 unfolding nextRaw nextAt nextStep isBlank kindOf tokensFrom tokensBy afterRaw
 next s p = nextAt s 5 (place p)
 
--- EF BB BF EF BB BF: a step over the second mark is 9,
-pub second-mark : nextRaw (0xEF ∷ 0xBB ∷ 0xBF ∷ 0xEF ∷ 0xBB ∷ 0xBF ∷ []) 3 ≡ moved (Step.Refused (Refusal.Unclassified (position 8) 0xFEFF)) (place 3)
+-- EF BB BF EF BB BF: a step over the second mark is 7,
+pub second-mark : nextRaw (0xEF ∷ 0xBB ∷ 0xBF ∷ 0xEF ∷ 0xBB ∷ 0xBF ∷ []) 3 ≡ moved (Step.Refused (Refusal.Unexpected (position 8) 0xFEFF)) (place 3)
 unfolding nextRaw
 second-mark = refl
 
 -- and one at place 0 too.
-pub first-mark : nextRaw (0xEF ∷ 0xBB ∷ 0xBF ∷ []) 0 ≡ moved (Step.Refused (Refusal.Unclassified (position 5) 0xFEFF)) (place 0)
+pub first-mark : nextRaw (0xEF ∷ 0xBB ∷ 0xBF ∷ []) 0 ≡ moved (Step.Refused (Refusal.Unexpected (position 5) 0xFEFF)) (place 0)
 unfolding nextRaw
 first-mark = refl
 

@@ -8,7 +8,7 @@ use Rattle.answers.specs.Caps.{firstOf, lengthVerdict, mapVerdict, textVerdict}
 use Rattle.answers.specs.declared.Refusal.the-variants.{IllFormed, InvalidStringElement, InvalidStringEscape, WantedChar, UnexpectedEof, InvalidUtf8, NumberTooBig, LoneUnderscore, InvalidHexDigit, InvalidUnicodeValue, BadSpan, NoRoom}
 use Rattle.chars.specs.Utf8.{byteAt, leads, leadOf, isTail, charBy, charAt, isScalar, encode}
 use Rattle.chars.specs.View.{placeOf, seenAt, seenBy, charsFrom, folded, foldedAt, foldedFrom}
-use Rattle.chars.specs.Classes.{hexDigits, toHex}
+use Rattle.chars.specs.Hex.{hexDigits, toHex}
 use Rattle.strings.specs.declared.Literal.{Literal}
 use Rattle.strings.specs.declared.Literal.the-variants.{Closed, Refused}
 use Rattle.strings.specs.declared.Decoded.{Decoded}

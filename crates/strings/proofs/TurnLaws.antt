@@ -1,25 +1,24 @@
 -- One turn: what stands at a place, what holds of what a character does there, and how the walk comes on by it (`specs/inner/Walking.antt`).
 use Prim.Native.Nat.{ℕ, _≤_, _<_, _+_, _-_, _*_}
-use mathlib.Core.Path.{_≡_, refl, sym, ap, _∙_}
+use mathlib.Core.Path.{_≡_, refl, ap, _∙_}
 use mathlib.Core.Bool.{Bool, true, false, _||_}
-use mathlib.Core.List.{List, [], _∷_, _++_, append-nil, append-assoc}
+use mathlib.Core.List.{List, [], _++_, append-nil, append-assoc}
 use native.Mathlib.Omega.{arith}
 use lib.Dec.{leb, ltb, eqb}
 use lib.ListN.{length, length-append}
 use borrow.Author.Tests.{leb-false, ltb-true, eqb-false}
-use Rattle.terms.specs.Terms.{if_then_else_, Row, _to_is_, said}
+use Rattle.terms.specs.Terms.{if_then_else_, _to_is_}
 use Rattle.answers.specs.declared.Place.{Place}
-use Rattle.answers.specs.declared.Ill.{Ill as Sequence}
 use Rattle.answers.specs.declared.Refusal.{Refusal}
 use Rattle.answers.specs.declared.Refusal.the-variants.{IllFormed, UnexpectedEof, InvalidStringElement, InvalidStringEscape, WantedChar, NumberTooBig, LoneUnderscore, InvalidHexDigit, InvalidUnicodeValue}
 use Rattle.answers.specs.Places.{inMap}
 use Rattle.answers.specs.Caps.{cap}
 use Rattle.chars.specs.Utf8.{byteAt, onBy, isScalar, encode}
 use Rattle.chars.specs.View.{foldedAt, foldedFrom}
-use Rattle.chars.specs.Classes.{toHex}
+use Rattle.chars.specs.Hex.{toHex}
 use Rattle.chars.specs.declared.Read.{Read}
 use Rattle.chars.specs.declared.Read.the-variants.{End, Ill, Char}
-use Rattle.chars.proofs.Utf8Laws.{Onward, each, scalar-low}
+use Rattle.chars.proofs.Utf8Laws.{each, scalar-low}
 use Rattle.chars.proofs.ViewLaws.{folded-end, folded-ill, folded-char, folded-onward, folded-scalar, folded-ascii-at}
 use Rattle.encoding.proofs.EncodeLaws.{encode-one, encode-most}
 use Rattle.encoding.proofs.RoundTrip.{folded-width}
@@ -29,7 +28,6 @@ use Rattle.strings.specs.declared.More.{More}
 use Rattle.strings.specs.declared.More.the-variants.{Nothing, One, Whole}
 use Rattle.strings.specs.declared.Turn.{Turn}
 use Rattle.strings.specs.declared.Turn.the-variants.{On, Close, Fail}
-use Rattle.strings.specs.declared.Expected.{Expected}
 use Rattle.strings.specs.declared.Expected.the-variants.{Char as Stands, Fail as Fails}
 use Rattle.strings.specs.declared.Element.{Element}
 use Rattle.strings.specs.declared.Element.the-variants.{Adds, Close as Closes, Fail as Fails′}

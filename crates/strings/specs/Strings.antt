@@ -12,7 +12,7 @@ use Rattle.answers.specs.declared.Refusal.the-variants.{IllFormed, InvalidStrin
 use Rattle.answers.specs.Places.{place, inMap}
 use Rattle.chars.specs.Utf8.{isScalar, encode}
 use Rattle.chars.specs.View.{Chars, end, ill, char, placeOf, charsFrom, foldedFrom}
-use Rattle.chars.specs.Classes.{toHex}
+use Rattle.chars.specs.Hex.{toHex}
 use Rattle.strings.specs.declared.Inside.{Inside}
 use Rattle.strings.specs.declared.Inside.the-variants.{Plain, Escape, Half, Brace, First, Number}
 use Rattle.strings.specs.declared.More.{More}

@@ -4,21 +4,24 @@ use mathlib.Core.Path.{_≡_, refl}
 use mathlib.Core.List.{List, [], _∷_, _++_}
 use Rattle.terms.specs.Terms.{said, within, sameBytes, ascii}
 use Rattle.answers.specs.Places.{place, inMap}
-use Rattle.answers.specs.declared.Refusal.the-variants.{IllFormed, Unexpected, UnterminatedComment, Unclassified, InvalidStringElement}
+use Rattle.answers.specs.declared.Refusal.the-variants.{IllFormed, Unexpected, UnterminatedComment, InvalidStringElement}
 use Rattle.chars.specs.Utf8.{byteAt, leads, leadOf, isTail, charBy, charAt, encode}
 use Rattle.chars.specs.View.{placeOf, seenAt, seenBy, charsFrom, folded, foldedAt, foldedFrom}
-use Rattle.chars.specs.Classes.{xidStarts, xidStart, xidContinue, keylikeStart, keylikeContinue}
+use Rattle.classes.specs.Ranges.{member}
+use Rattle.classes.specs.XidStart.{xidStarts}
+use Rattle.classes.specs.XidContinue.{xidContinues}
+use Rattle.classes.specs.Classes.{xidStart, xidContinue, keylikeStart, keylikeContinue}
 use Rattle.strings.specs.Strings.{plainTurn, turnOf, added, gatherOn, gather, firstIll, judged, closedBy, literalOf, stringLiteral}
 use Rattle.kinds.specs.declared.Token.{Token}
 use Rattle.kinds.specs.Keywords.{keywords, keyIn, keyword}
-use Rattle.runs.specs.Comments.{blank, digit, runBy, run, lineComment, seen, blockTurn, blockOn, blockComment}
+use Rattle.runs.specs.Comments.{blank, digit, run, lineComment, seen, blockTurn, blockOn, blockComment}
 use Rattle.tokens.specs.declared.Raw.{Raw}
 use Rattle.tokens.specs.declared.Raw.the-variants.{Token as Found, Refused}
-use Rattle.tokens.specs.Tokens.{rules, ruleOf, asToken, slashRule, dashRule, classedBy, percentRule, asWord, asString, lexedBy, spanned, rawOf, rawAt}
+use Rattle.tokens.specs.Tokens.{rules, ruleOf, asToken, slashRule, dashRule, percentRule, asWord, asString, lexedBy, spanned, rawOf, rawAt}
 
 -- The raw token at a place of a text that stands at this offset.
 unfoldable pub at : List ℕ → ℕ → ℕ → Raw
-unfolding rawAt rawOf spanned lexedBy asString asWord percentRule classedBy dashRule slashRule asToken ruleOf rules blockComment blockOn blockTurn seen lineComment run runBy digit blank keyword keyIn keywords stringLiteral literalOf closedBy judged firstIll gather gatherOn added turnOf plainTurn keylikeContinue keylikeStart xidContinue xidStart xidStarts foldedFrom foldedAt folded charsFrom seenBy seenAt placeOf charAt charBy encode isTail leadOf leads byteAt inMap said within sameBytes ascii
+unfolding rawAt rawOf spanned lexedBy asString asWord percentRule dashRule slashRule asToken ruleOf rules blockComment blockOn blockTurn seen lineComment run digit blank keyword keyIn keywords stringLiteral literalOf closedBy judged firstIll gather gatherOn added turnOf plainTurn keylikeContinue keylikeStart xidContinue xidContinues xidStart xidStarts member foldedFrom foldedAt folded charsFrom seenBy seenAt placeOf charAt charBy encode isTail leadOf leads byteAt inMap said within sameBytes ascii
 at s o p = rawAt s o (place p)
 
 -- A token of this kind from one position to another, with the place behind it.
@@ -65,43 +68,48 @@ pub p11 : at (ascii "\r") 0 0 ≡ Refused (Unexpected (record { 0 = 0 }) 13)
 unfolding at
 p11 = refl
 
--- 61 CE BB at offset 5: 9 stands at the character's own position.
-pub unclassified-in-word : at (0x61 ∷ 0xCE ∷ 0xBB ∷ []) 5 0 ≡ Refused (Unclassified (record { 0 = 6 }) 955)
+-- 61 CE BB: a Greek letter goes on a word,
+pub greek-in-word : at (0x61 ∷ 0xCE ∷ 0xBB ∷ []) 5 0 ≡ token Token.Id 5 8 3
 unfolding at
-unclassified-in-word = refl
+greek-in-word = refl
 
--- CE BB: classified as a first character.
-pub unclassified-first : at (0xCE ∷ 0xBB ∷ []) 5 0 ≡ Refused (Unclassified (record { 0 = 5 }) 955)
+-- CE BB: begins one,
+pub greek-first : at (0xCE ∷ 0xBB ∷ []) 5 0 ≡ token Token.Id 5 7 2
 unfolding at
-unclassified-first = refl
+greek-first = refl
 
--- % CE BB: and behind `%`.
-pub unclassified-behind-percent : at (0x25 ∷ 0xCE ∷ 0xBB ∷ []) 5 0 ≡ Refused (Unclassified (record { 0 = 6 }) 955)
+-- % CE BB: and begins one behind `%`.
+pub greek-behind-percent : at (0x25 ∷ 0xCE ∷ 0xBB ∷ []) 5 0 ≡ token Token.ExplicitId 5 8 3
 unfolding at
-unclassified-behind-percent = refl
+greek-behind-percent = refl
 
--- 1 CE BB: behind digits it is not classified,
-pub unclassified-behind-digit : at (0x31 ∷ 0xCE ∷ 0xBB ∷ []) 5 0 ≡ token Token.Integer 5 6 1
+-- CC 81: a combining mark begins no word, so it is 7,
+pub mark-first : at (0xCC ∷ 0x81 ∷ []) 5 0 ≡ Refused (Unexpected (record { 0 = 5 }) 0x301)
 unfolding at
-unclassified-behind-digit = refl
+mark-first = refl
 
--- - CE BB: nor behind `-`,
-pub unclassified-behind-dash : at (0x2D ∷ 0xCE ∷ 0xBB ∷ []) 5 0 ≡ token Token.Minus 5 6 1
+-- 61 CC 81: but goes on one.
+pub mark-in-word : at (0x61 ∷ 0xCC ∷ 0x81 ∷ []) 5 0 ≡ token Token.Id 5 8 3
 unfolding at
-unclassified-behind-dash = refl
+mark-in-word = refl
 
--- / CE BB: nor behind `/`,
-pub unclassified-behind-slash : at (0x2F ∷ 0xCE ∷ 0xBB ∷ []) 5 0 ≡ token Token.Slash 5 6 1
+-- CB 82: U+02C2, the first character above the short rule, is 7,
+pub above-first : at (0xCB ∷ 0x82 ∷ []) 5 0 ≡ Refused (Unexpected (record { 0 = 5 }) 0x2C2)
 unfolding at
-unclassified-behind-slash = refl
+above-first = refl
 
--- = CE BB: nor behind `=`.
-pub unclassified-behind-equals : at (0x3D ∷ 0xCE ∷ 0xBB ∷ []) 5 0 ≡ token Token.Equals 5 6 1
+-- 61 CB 82: and ends a word.
+pub above-ends-word : at (0x61 ∷ 0xCB ∷ 0x82 ∷ []) 5 0 ≡ token Token.Id 5 6 1
 unfolding at
-unclassified-behind-equals = refl
+above-ends-word = refl
 
--- EF BB BF: a token over a byte order mark is 9.
-pub mark : at (0xEF ∷ 0xBB ∷ 0xBF ∷ []) 0 0 ≡ Refused (Unclassified (record { 0 = 0 }) 0xFEFF)
+-- 1 CE BB: it ends a run of digits.
+pub greek-behind-digit : at (0x31 ∷ 0xCE ∷ 0xBB ∷ []) 5 0 ≡ token Token.Integer 5 6 1
+unfolding at
+greek-behind-digit = refl
+
+-- EF BB BF: a token over a byte order mark is 7.
+pub mark : at (0xEF ∷ 0xBB ∷ 0xBF ∷ []) 0 0 ≡ Refused (Unexpected (record { 0 = 0 }) 0xFEFF)
 unfolding at
 mark = refl
 

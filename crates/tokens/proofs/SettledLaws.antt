@@ -1,21 +1,20 @@
 -- A settled rule says what the rule of the character says.
 use Prim.Native.Nat.{ℕ}
-use mathlib.Core.Path.{_≡_, refl, sym, _∙_}
+use mathlib.Core.Path.{_≡_, refl}
+use mathlib.Core.Bool.{Bool, true, false}
 use mathlib.Core.List.{List, []}
 use native.Mathlib.Omega.{arith}
+use Rattle.terms.specs.Terms.{if_then_else_}
 use Rattle.answers.specs.declared.Place.{Place}
-use Rattle.chars.specs.declared.Class.{Class}
-use Rattle.chars.specs.declared.Class.the-variants.{Inside, Outside, Unknown}
-use Rattle.chars.specs.Classes.{keylikeStart}
+use Rattle.classes.specs.Classes.{keylikeStart}
 use Rattle.chars.specs.View.{Chars}
-use Rattle.tokens.specs.declared.Lexed.{Lexed}
 use Rattle.tokens.specs.declared.Rule.{Rule}
 use Rattle.tokens.specs.declared.Rule.the-variants.{Blanks, Slash, Dash, Percent, Quote, Digits, Word, Mark, Classed}
-use Rattle.tokens.specs.Tokens.{lexedBy, classedBy}
-use Rattle.tokens.specs.inner.Settled.{ruleBy, settled}
+use Rattle.tokens.specs.Tokens.{lexedBy}
+use Rattle.tokens.specs.inner.Settled.{settled}
 
 pub settled-same : (r : Rule) (s : List ℕ) (o : ℕ) (p : Place) (c : ℕ) (v : Chars) → lexedBy (settled r c) s o p c v ≡ lexedBy r s o p c v
-unfolding settled ruleBy lexedBy classedBy
+unfolding settled lexedBy
 settled-same Blanks s o p c v = refl
 settled-same Slash s o p c v = refl
 settled-same Dash s o p c v = refl
@@ -26,17 +25,16 @@ settled-same Word s o p c v = refl
 settled-same (Mark kind) s o p c v = refl
 settled-same Classed s o p c v = go (keylikeStart c) refl
   where
-    go : (k : Class) → keylikeStart c ≡ k → lexedBy (ruleBy k) s o p c v ≡ lexedBy Classed s o p c v
-    go Inside e = rw e
-    go Outside e = refl
-    go Unknown e = refl
+    go : (t : Bool) → keylikeStart c ≡ t → lexedBy (if t then Word else Classed) s o p c v ≡ lexedBy Classed s o p c v
+    go true e = rw e
+    go false e = refl
 
 -- a character that is settled as Classed is not inside the class
 word-not : Word ≡ Classed → ⊥
 word-not e = let z : _≡_ {A = ℕ} 0 1 = cc in omega arith
 
-pub settled-not : (r : Rule) (c : ℕ) → settled r c ≡ Classed → keylikeStart c ≡ Inside → ⊥
-unfolding settled ruleBy
+pub settled-not : (r : Rule) (c : ℕ) → settled r c ≡ Classed → keylikeStart c ≡ true → ⊥
+unfolding settled
 settled-not Blanks c e i = let z : _≡_ {A = ℕ} 0 1 = cc in omega arith
 settled-not Slash c e i = let z : _≡_ {A = ℕ} 0 1 = cc in omega arith
 settled-not Dash c e i = let z : _≡_ {A = ℕ} 0 1 = cc in omega arith

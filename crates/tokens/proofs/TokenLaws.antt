@@ -12,12 +12,10 @@ use Rattle.answers.specs.declared.Span.{Span}
 use Rattle.answers.specs.declared.Refusal.{Refusal}
 use Rattle.answers.specs.Places.{inMap}
 use Rattle.answers.specs.Caps.{cap}
-use Rattle.chars.specs.declared.Class.{Class}
-use Rattle.chars.specs.declared.Class.the-variants.{Inside, Outside, Unknown}
 use Rattle.chars.specs.declared.Read.{Read}
 use Rattle.chars.specs.declared.Read.the-variants.{End as Ended, Ill, Char}
-use Rattle.chars.specs.View.{Chars, end, ill, char, placeOf, foldedAt, foldedFrom}
-use Rattle.chars.specs.Classes.{keylikeStart, keylikeContinue}
+use Rattle.chars.specs.View.{end, ill, char, placeOf, foldedAt, foldedFrom}
+use Rattle.classes.specs.Classes.{keylikeStart, keylikeContinue}
 use Rattle.chars.proofs.ViewLaws.{folded-end, folded-ill, folded-char, folded-place, folded-onward, folded-end-at}
 use Rattle.chars.proofs.LocalLaws.{Alike, view-alike}
 use Rattle.strings.specs.declared.Literal.{Literal}
@@ -36,9 +34,8 @@ use Rattle.tokens.specs.declared.Lexed.{Lexed}
 use Rattle.tokens.specs.declared.Lexed.the-variants.{As, Not}
 use Rattle.tokens.specs.declared.Rule.{Rule}
 use Rattle.tokens.specs.declared.Rule.the-variants.{Blanks, Slash, Dash, Percent, Quote, Digits, Word, Mark, Classed}
-use Rattle.tokens.specs.declared.Raw.{Raw}
 use Rattle.tokens.specs.declared.Raw.the-variants.{Token as Found, End, Refused}
-use Rattle.tokens.specs.Tokens.{ruleOf, asToken, slashRule, dashRule, classedBy, percentRule, asWord, asString, lexedBy, spanned, rawOf, rawAt}
+use Rattle.tokens.specs.Tokens.{ruleOf, asToken, slashRule, dashRule, percentRule, asWord, asString, lexedBy, spanned, rawOf, rawAt}
 
 as-is : {j k : Token} {m n : Place} → As j m ≡ As k n → m ≡ n
 as-is e = cc
@@ -115,32 +112,31 @@ module _ (s : List ℕ) (o : ℕ) (p m : Place) (l : m .0 ≤ length s) (k : Tok
       go (Ill i) h = absurd (not-as (ap (dashRule) (sym (folded-ill s m i h)) ∙ e))
       go (Char c i) h = by c i h (eqb c 62) (ap (dashRule) (sym (folded-char s m c i h)) ∙ e)
 
-  percent-to : percentRule o (foldedFrom s m) ≡ As k n → Ends s m n
-  unfolding percentRule classedBy
+  percent-to : percentRule (foldedFrom s m) ≡ As k n → Ends s m n
+  unfolding percentRule
   percent-to e = go (foldedAt s m) refl
     where
-      by : (c : ℕ) (i : Place) → foldedAt s m ≡ Char c i → (t : Class)
-          → classedBy t o m c (asToken Token.ExplicitId (run keylikeContinue o (foldedFrom s i))) (As Token.ExplicitId m) ≡ As k n → Ends s m n
-      by c i h Inside e =
+      by : (c : ℕ) (i : Place) → foldedAt s m ≡ Char c i → (t : Bool)
+          → (if t then asToken Token.ExplicitId (run keylikeContinue (foldedFrom s i)) else As Token.ExplicitId m) ≡ As k n → Ends s m n
+      by c i h true e =
           let g = folded-onward s m c i h in
-          token-to Token.ExplicitId (run keylikeContinue o (foldedFrom s i))
-          (λ j q. further s m i j (g .beyond) (run-to keylikeContinue o s i (g .inside) j q)) e
-      by c i h Outside e = here Token.ExplicitId m refl e
-      by c i h Unknown e = absurd (not-as e)
+          token-to Token.ExplicitId (run keylikeContinue (foldedFrom s i))
+          (λ j q. further s m i j (g .beyond) (run-to keylikeContinue s i (g .inside) j q)) e
+      by c i h false e = here Token.ExplicitId m refl e
 
       go : (r : Read) → foldedAt s m ≡ r → Ends s m n
-      go Ended h = here Token.ExplicitId m refl (ap (percentRule o) (sym (folded-end s m h)) ∙ e)
-      go (Ill i) h = absurd (not-as (ap (percentRule o) (sym (folded-ill s m i h)) ∙ e))
-      go (Char c i) h = by c i h (keylikeStart c) (ap (percentRule o) (sym (folded-char s m c i h)) ∙ e)
+      go Ended h = here Token.ExplicitId m refl (ap percentRule (sym (folded-end s m h)) ∙ e)
+      go (Ill i) h = absurd (not-as (ap percentRule (sym (folded-ill s m i h)) ∙ e))
+      go (Char c i) h = by c i h (keylikeStart c) (ap percentRule (sym (folded-char s m c i h)) ∙ e)
 
-  run-ends : (j : Token) (class : ℕ → Class) → asToken j (run class o (foldedFrom s m)) ≡ As k n → Ends s m n
-  run-ends j class = token-to j (run class o (foldedFrom s m)) (run-to class o s m l)
+  run-ends : (j : Token) (class : ℕ → Bool) → asToken j (run class (foldedFrom s m)) ≡ As k n → Ends s m n
+  run-ends j class = token-to j (run class (foldedFrom s m)) (run-to class s m l)
 
-  word-ends : asWord s p (run keylikeContinue o (foldedFrom s m)) ≡ As k n → Ends s m n
-  word-ends = word-to (run keylikeContinue o (foldedFrom s m)) (run-to keylikeContinue o s m l)
+  word-ends : asWord s p (run keylikeContinue (foldedFrom s m)) ≡ As k n → Ends s m n
+  word-ends = word-to (run keylikeContinue (foldedFrom s m)) (run-to keylikeContinue s m l)
 
   rule-to : (rule : Rule) (c : ℕ) → lexedBy rule s o p c (foldedFrom s m) ≡ As k n → Ends s m n
-  unfolding lexedBy classedBy
+  unfolding lexedBy
   rule-to Blanks c e = run-ends Token.Whitespace blank e
   rule-to Slash c e = slash-to e
   rule-to Dash c e = dash-to e
@@ -151,11 +147,10 @@ module _ (s : List ℕ) (o : ℕ) (p m : Place) (l : m .0 ≤ length s) (k : Tok
   rule-to (Mark kind) c e = here kind _ (folded-place s m) e
   rule-to Classed c e = go (keylikeStart c) e
     where
-      go : (t : Class)
-          → classedBy t o p c (asWord s p (run keylikeContinue o (foldedFrom s m))) (Not (Refusal.Unexpected (inMap o p) c)) ≡ As k n → Ends s m n
-      go Inside e = word-ends e
-      go Outside e = absurd (not-as e)
-      go Unknown e = absurd (not-as e)
+      go : (t : Bool)
+          → (if t then asWord s p (run keylikeContinue (foldedFrom s m)) else Not (Refusal.Unexpected (inMap o p) c)) ≡ As k n → Ends s m n
+      go true e = word-ends e
+      go false e = absurd (not-as e)
 
 -- THE LAW: a token spans from its place, and goes on beyond it within the text
 pub record Goes (s : List ℕ) (o : ℕ) (p : Place) (span : Span) (n : Place) : Type 0 where
@@ -228,9 +223,9 @@ raw-alike s t o p a = rw (← view-alike p s t a p (omega arith)) (go (foldedAt 
     by c m h Quote =
         ap asString (literal-alike p s t a o (inMap o p) (placeOf (foldedFrom s m)) (rw (folded-place s m) (omega (arith, folded-onward s p c m h .beyond))))
     by c m h Digits = refl
-    by c m h Word = word (run keylikeContinue o (foldedFrom s m))
+    by c m h Word = word (run keylikeContinue (foldedFrom s m))
     by c m h (Mark kind) = refl
-    by c m h Classed = rw (word (run keylikeContinue o (foldedFrom s m)))
+    by c m h Classed = rw (word (run keylikeContinue (foldedFrom s m)))
 
     go : (r : Read) → foldedAt s p ≡ r → rawOf s o (foldedFrom s p) ≡ rawOf t o (foldedFrom s p)
     go Ended h = rw (folded-end s p h)

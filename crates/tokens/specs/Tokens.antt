@@ -5,14 +5,10 @@ use lib.ListN.{take, drop}
 use lib.Dec.{eqb}
 use Rattle.terms.specs.Terms.{if_then_else_, Row, _to_is_, said}
 use Rattle.answers.specs.declared.Place.{Place}
-use Rattle.answers.specs.declared.Span.{Span}
-use Rattle.answers.specs.declared.Refusal.{Refusal}
-use Rattle.answers.specs.declared.Refusal.the-variants.{IllFormed, Unexpected, Unclassified}
+use Rattle.answers.specs.declared.Refusal.the-variants.{IllFormed, Unexpected}
 use Rattle.answers.specs.Places.{inMap}
-use Rattle.chars.specs.declared.Class.{Class}
-use Rattle.chars.specs.declared.Class.the-variants.{Inside, Outside, Unknown}
 use Rattle.chars.specs.View.{Chars, end, ill, char, placeOf, foldedFrom}
-use Rattle.chars.specs.Classes.{keylikeStart, keylikeContinue}
+use Rattle.classes.specs.Classes.{keylikeStart, keylikeContinue}
 use Rattle.strings.specs.declared.Literal.{Literal}
 use Rattle.strings.specs.declared.Literal.the-variants.{Closed, Refused as Refused′}
 use Rattle.strings.specs.Strings.{stringLiteral}
@@ -66,17 +62,11 @@ dashRule (end n) = As Token.Minus n
 dashRule (ill i) = Not (IllFormed i)
 dashRule (char n c v) = if eqb c 62 then As Token.RArrow (placeOf v) else As Token.Minus n
 
--- By the class of a character: what the rule inside it says, what it says outside, or 9.
-unfoldable pub classedBy : Class → ℕ → Place → ℕ → Lexed → Lexed → Lexed
-classedBy Inside o p c inside outside = inside
-classedBy Outside o p c inside outside = outside
-classedBy Unknown o p c inside outside = Not (Unclassified (inMap o p) c)
-
 -- `%`: with a keylike start and the longest run of continuations, or alone.
-unfoldable pub percentRule : ℕ → Chars → Lexed
-percentRule o (end n) = As Token.ExplicitId n
-percentRule o (ill i) = Not (IllFormed i)
-percentRule o (char n c v) = classedBy (keylikeStart c) o n c (asToken Token.ExplicitId (run keylikeContinue o v)) (As Token.ExplicitId n)
+unfoldable pub percentRule : Chars → Lexed
+percentRule (end n) = As Token.ExplicitId n
+percentRule (ill i) = Not (IllFormed i)
+percentRule (char n c v) = if keylikeStart c then asToken Token.ExplicitId (run keylikeContinue v) else As Token.ExplicitId n
 
 -- A word's end gives its bytes, and those its kind.
 unfoldable pub asWord : List ℕ → Place → Ran → Lexed
@@ -90,15 +80,15 @@ asString (Refused′ f) = Not f
 
 -- The token at p, whose first character is c and behind which v is seen, by its rule.
 unfoldable pub lexedBy : Rule → List ℕ → ℕ → Place → ℕ → Chars → Lexed
-lexedBy Blanks s o p c v = asToken Token.Whitespace (run blank o v)
+lexedBy Blanks s o p c v = asToken Token.Whitespace (run blank v)
 lexedBy Slash s o p c v = slashRule o p v
 lexedBy Dash s o p c v = dashRule v
-lexedBy Percent s o p c v = percentRule o v
+lexedBy Percent s o p c v = percentRule v
 lexedBy Quote s o p c v = asString (stringLiteral s o (inMap o p) (placeOf v))
-lexedBy Digits s o p c v = asToken Token.Integer (run digit o v)
-lexedBy Word s o p c v = asWord s p (run keylikeContinue o v)
+lexedBy Digits s o p c v = asToken Token.Integer (run digit v)
+lexedBy Word s o p c v = asWord s p (run keylikeContinue v)
 lexedBy (Mark kind) s o p c v = As kind (placeOf v)
-lexedBy Classed s o p c v = classedBy (keylikeStart c) o p c (asWord s p (run keylikeContinue o v)) (Not (Unexpected (inMap o p) c))
+lexedBy Classed s o p c v = if keylikeStart c then asWord s p (run keylikeContinue v) else Not (Unexpected (inMap o p) c)
 
 -- A token with its span.
 unfoldable pub spanned : ℕ → Place → Lexed → Raw

@@ -5,22 +5,19 @@ use crate::Rule;
 use answers::Place;
 use answers::Refusal;
 use answers::Span;
-use chars::Class;
 use chars::Read;
 use kinds::Token;
 use runs::Ran;
 use runs::Run;
 use strings::Literal;
 ghost use mathlib.Core.Path.{_≡_};
-ghost use Prim.Native.Nat.{_<_, _≤_};
+ghost use Prim.Native.Nat.{_≤_};
 ghost use lib.ListN.{length};
 ghost use Rattle.chars.specs.View.{foldedFrom};
-ghost use Rattle.answers.specs.Places.{inMap};
-ghost use Rattle.chars.specs.Classes.{keylikeStart};
 ghost use Rattle.runs.specs.Comments.{run};
+ghost use Rattle.tokens.specs.Tokens.{ruleOf, asToken, slashRule, dashRule, percentRule, asWord, asString, lexedBy, spanned, rawAt};
 ghost use Rattle.runs.specs.inner.Runs.{classOf};
-ghost use Rattle.tokens.specs.Tokens.{ruleOf, asToken, slashRule, dashRule, classedBy, percentRule, asWord, asString, lexedBy, spanned, rawAt};
-ghost use Rattle.tokens.specs.inner.Settled.{ruleBy, settled};
+ghost use Rattle.tokens.specs.inner.Settled.{settled};
 
 // The rule that a first character calls for: one choice over character numbers and ranges.
 fn rule_of(c: u32) -> Rule
@@ -102,33 +99,27 @@ fn dash_rule(text: &[u8], next: Place) -> Lexed
 }
 
 // `%`, with the next place behind it: with a keylike start and the longest run of continuations, or alone.
-fn percent_rule(text: &[u8], offset: u32, next: Place) -> Lexed
-    ensures { λ r. ⌜ r ≡ percentRule offset (foldedFrom (now (text .entry)) next) ⌝ }
+fn percent_rule(text: &[u8], next: Place) -> Lexed
+    ensures { λ r. ⌜ r ≡ percentRule (foldedFrom (now (text .entry)) next) ⌝ }
 {
     match chars::folded_at(text, next) {
         Read::End => Lexed::As(Token::ExplicitId, next),
         Read::Ill(ill) => Lexed::Not(Refusal::IllFormed(ill)),
-        Read::Char(c, behind) => match chars::is_keylike_start(c) {
-            Class::Inside => {
-                as_token(
-                    Token::ExplicitId,
-                    runs::run_on(text, offset, behind, Run::Keylike),
-                )
+        Read::Char(c, behind) => {
+            if classes::is_keylike_start(c) {
+                return as_token(Token::ExplicitId, runs::run_on(text, behind, Run::Keylike));
             }
-            Class::Outside => Lexed::As(Token::ExplicitId, next),
-            Class::Unknown => {
-                Lexed::Not(Refusal::Unclassified(answers::in_map(offset, next), c))
-            }
-        },
+            Lexed::As(Token::ExplicitId, next)
+        }
     }
 }
 
 // The word from `at` on whose first character ends before `next`: its end gives its bytes, and those its kind.
-fn word_rule(text: &[u8], offset: u32, at: Place, next: Place) -> Lexed
+fn word_rule(text: &[u8], at: Place, next: Place) -> Lexed
     requires { ⌜ (at .0 ≤ next .0) × (next .0 ≤ length (now text)) ⌝ }
-    ensures { λ r. ⌜ r ≡ asWord (now (text .entry)) at (run (classOf Run.Keylike) offset (foldedFrom (now (text .entry)) next)) ⌝ }
+    ensures { λ r. ⌜ r ≡ asWord (now (text .entry)) at (run (classOf Run.Keylike) (foldedFrom (now (text .entry)) next)) ⌝ }
 {
-    match runs::run_from(text, offset, next, Run::Keylike) {
+    match runs::run_from(text, next, Run::Keylike) {
         Ran::To(end) => {
             let from = at.0 as usize;
             let to = end.0 as usize;
@@ -140,13 +131,12 @@ fn word_rule(text: &[u8], offset: u32, at: Place, next: Place) -> Lexed
 
 // The rule of a character that its class decides on.
 fn rule_by_class(c: u32) -> Rule
-    ensures { λ r. ⌜ r ≡ ruleBy (keylikeStart c) ⌝ }
+    ensures { λ r. ⌜ r ≡ settled Rule.Classed c ⌝ }
 {
-    match chars::is_keylike_start(c) {
-        Class::Inside => Rule::Word,
-        Class::Outside => Rule::Classed,
-        Class::Unknown => Rule::Classed,
+    if classes::is_keylike_start(c) {
+        return Rule::Word;
     }
+    Rule::Classed
 }
 
 // The rule that a first character calls for, with its class asked where that decides. Most words begin with a small letter, so that comes first.
@@ -169,18 +159,6 @@ fn settled_rule(c: u32) -> Rule
     }
 }
 
-// A first character that no rule takes: 9 where its class is not known, else 7.
-fn no_rule(offset: u32, at: Place, c: u32) -> Lexed
-    requires { ⌜ (keylikeStart c ≡ Class.Inside → ⊥) ⌝ }
-    ensures { λ r. ⌜ ((word : Lexed) → r ≡ classedBy (keylikeStart c) offset at c word (Lexed.Not (Refusal.Unexpected (inMap offset at) c))) ⌝ }
-{
-    let start = answers::in_map(offset, at);
-    if let Class::Unknown = chars::is_keylike_start(c) {
-        return Lexed::Not(Refusal::Unclassified(start, c));
-    }
-    Lexed::Not(Refusal::Unexpected(start, c))
-}
-
 // A string's end.
 fn as_string(literal: Literal) -> Lexed
     ensures { λ r. ⌜ r ≡ asString literal ⌝ }
@@ -197,24 +175,18 @@ fn lexed_by(text: &[u8], offset: u32, at: Place, c: u32, next: Place) -> Lexed
     ensures { λ r. ⌜ r ≡ lexedBy (ruleOf c) (now (text .entry)) offset at c (foldedFrom (now (text .entry)) next) ⌝ }
 {
     match settled_rule(c) {
-        Rule::Blanks => as_token(
-            Token::Whitespace,
-            runs::run_from(text, offset, next, Run::Blanks),
-        ),
+        Rule::Blanks => as_token(Token::Whitespace, runs::run_from(text, next, Run::Blanks)),
         Rule::Slash => slash_rule(text, offset, at, next),
         Rule::Dash => dash_rule(text, next),
-        Rule::Percent => percent_rule(text, offset, next),
+        Rule::Percent => percent_rule(text, next),
         Rule::Quote => {
             let start = answers::in_map(offset, at);
             as_string(strings::expect_string_literal(text, offset, start, next))
         }
-        Rule::Digits => as_token(
-            Token::Integer,
-            runs::run_from(text, offset, next, Run::Digits),
-        ),
-        Rule::Word => word_rule(text, offset, at, next),
+        Rule::Digits => as_token(Token::Integer, runs::run_from(text, next, Run::Digits)),
+        Rule::Word => word_rule(text, at, next),
         Rule::Mark(kind) => Lexed::As(kind, next),
-        Rule::Classed => no_rule(offset, at, c),
+        Rule::Classed => { Lexed::Not(Refusal::Unexpected(answers::in_map(offset, at), c)) }
     }
 }
 

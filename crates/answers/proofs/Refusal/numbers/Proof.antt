@@ -120,26 +120,26 @@ row-requires-19 c κs = search needs
 enum-known-self-19 : tie.Need-enum-known-self-19
 enum-known-self-19 c = search needs
 
-row-requires-20 : tie.Need-row-requires-20
-row-requires-20 c κs = search needs
-
-enum-known-self-20 : tie.Need-enum-known-self-20
-enum-known-self-20 c = search needs
-
 kinds-requires : tie.Need-kinds-requires
 kinds-requires c κs = search needs
 
-row-requires-21 : tie.Need-row-requires-21
-row-requires-21 c κs = search needs
+row-requires-20 : tie.Need-row-requires-20
+row-requires-20 c κs = search needs
 
 enum-told-2 : tie.Need-enum-told-2
 enum-told-2 c = search needs
 
-row-requires-22 : tie.Need-row-requires-22
-row-requires-22 c κs = search needs
+row-requires-21 : tie.Need-row-requires-21
+row-requires-21 c κs = search needs
 
 enum-told-3 : tie.Need-enum-told-3
 enum-told-3 c = search needs
+
+row-requires-22 : tie.Need-row-requires-22
+row-requires-22 c κs = search needs
+
+enum-known-self-20 : tie.Need-enum-known-self-20
+enum-known-self-20 c = search needs
 
 row-requires-23 : tie.Need-row-requires-23
 row-requires-23 c κs = search needs
@@ -150,20 +150,20 @@ enum-known-self-21 c = search needs
 row-requires-24 : tie.Need-row-requires-24
 row-requires-24 c κs = search needs
 
-enum-known-self-22 : tie.Need-enum-known-self-22
-enum-known-self-22 c = search needs
+enum-told-4 : tie.Need-enum-told-4
+enum-told-4 c = search needs
 
 row-requires-25 : tie.Need-row-requires-25
 row-requires-25 c κs = search needs
 
-enum-told-4 : tie.Need-enum-told-4
-enum-told-4 c = search needs
+enum-told-5 : tie.Need-enum-told-5
+enum-told-5 c = search needs
 
 row-requires-26 : tie.Need-row-requires-26
 row-requires-26 c κs = search needs
 
-enum-told-5 : tie.Need-enum-told-5
-enum-told-5 c = search needs
+enum-known-self-22 : tie.Need-enum-known-self-22
+enum-known-self-22 c = search needs
 
 row-requires-27 : tie.Need-row-requires-27
 row-requires-27 c κs = search needs
@@ -185,12 +185,6 @@ enum-known-self-25 c = search needs
 
 row-requires-30 : tie.Need-row-requires-30
 row-requires-30 c κs = search needs
-
-enum-known-self-26 : tie.Need-enum-known-self-26
-enum-known-self-26 c = search needs
-
-row-requires-31 : tie.Need-row-requires-31
-row-requires-31 c κs = search needs
 
 returns : tie.Need-returns
 unfolding told
@@ -270,19 +264,19 @@ returns-19 c = rw (c .before .before .self18 .given .1) (c .row19 .ensures)
 
 returns-20 : tie.Need-returns-20
 unfolding told
-returns-20 c = rw (c .before .before .self19 .given .1) (c .row20 .ensures)
+returns-20 c = rw (c .before .before .before .self19 .given .1, ← c .before .kinds .ensures) (c .row20 .ensures)
 
 returns-21 : tie.Need-returns-21
 unfolding told
-returns-21 c = rw (c .before .before .before .self20 .given .1, ← c .before .kinds .ensures) (c .row21 .ensures)
+returns-21 c = rw (c .before .enum-told2 .given .1) (c .row21 .ensures)
 
 returns-22 : tie.Need-returns-22
 unfolding told
-returns-22 c = rw (c .before .enum-told2 .given .1) (c .row22 .ensures)
+returns-22 c = rw (c .before .enum-told3 .given .1) (c .row22 .ensures)
 
 returns-23 : tie.Need-returns-23
 unfolding told
-returns-23 c = rw (c .before .enum-told3 .given .1) (c .row23 .ensures)
+returns-23 c = rw (c .before .before .self20 .given .1) (c .row23 .ensures)
 
 returns-24 : tie.Need-returns-24
 unfolding told
@@ -290,15 +284,15 @@ returns-24 c = rw (c .before .before .self21 .given .1) (c .row24 .ensures)
 
 returns-25 : tie.Need-returns-25
 unfolding told
-returns-25 c = rw (c .before .before .self22 .given .1) (c .row25 .ensures)
+returns-25 c = rw (c .before .enum-told4 .given .1) (c .row25 .ensures)
 
 returns-26 : tie.Need-returns-26
 unfolding told
-returns-26 c = rw (c .before .enum-told4 .given .1) (c .row26 .ensures)
+returns-26 c = rw (c .before .enum-told5 .given .1) (c .row26 .ensures)
 
 returns-27 : tie.Need-returns-27
 unfolding told
-returns-27 c = rw (c .before .enum-told5 .given .1) (c .row27 .ensures)
+returns-27 c = rw (c .before .before .self22 .given .1) (c .row27 .ensures)
 
 returns-28 : tie.Need-returns-28
 unfolding told
@@ -311,10 +305,6 @@ returns-29 c = rw (c .before .before .self24 .given .1) (c .row29 .ensures)
 returns-30 : tie.Need-returns-30
 unfolding told
 returns-30 c = rw (c .before .before .self25 .given .1) (c .row30 .ensures)
-
-returns-31 : tie.Need-returns-31
-unfolding told
-returns-31 c = rw (c .before .before .self26 .given .1) (c .row31 .ensures)
 
 pub numbers-spec : {M : Type 1} → statement M
 numbers-spec =
@@ -359,21 +349,21 @@ numbers-spec =
     enum-known-self-18
     row-requires-19
     enum-known-self-19
-    row-requires-20
-    enum-known-self-20
     kinds-requires
-    row-requires-21
+    row-requires-20
     enum-told-2
-    row-requires-22
+    row-requires-21
     enum-told-3
+    row-requires-22
+    enum-known-self-20
     row-requires-23
     enum-known-self-21
     row-requires-24
-    enum-known-self-22
-    row-requires-25
     enum-told-4
-    row-requires-26
+    row-requires-25
     enum-told-5
+    row-requires-26
+    enum-known-self-22
     row-requires-27
     enum-known-self-23
     row-requires-28
@@ -381,8 +371,6 @@ numbers-spec =
     row-requires-29
     enum-known-self-25
     row-requires-30
-    enum-known-self-26
-    row-requires-31
     returns
     returns-2
     returns-3
@@ -412,5 +400,4 @@ numbers-spec =
     returns-27
     returns-28
     returns-29
-    returns-30
-    returns-31)
+    returns-30)

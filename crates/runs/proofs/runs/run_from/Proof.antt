@@ -20,13 +20,13 @@ single-at-requires : tie.Need-single-at-requires
 single-at-requires c κs = search needs
 
 returns : tie.Need-returns
-returns c = rw (ends (c .before .before)) (sym (run-ends _ _ _ _ (rw (← ends (c .before .before)) (sym (c .before .single-at .ensures) ∙ c .if1 .taken))))
+returns c = rw (ends (c .before .before)) (sym (run-ends _ _ _ (rw (← ends (c .before .before)) (sym (c .before .single-at .ensures) ∙ c .if1 .taken))))
 
 run-on-requires : tie.Need-run-on-requires
 run-on-requires c κs = search needs
 
 returns-2 : tie.Need-returns-2
-returns-2 c = c .run-on .ensures ∙ rw (ends (c .before .before .before)) (sym (run-passes _ _ _ _))
+returns-2 c = c .run-on .ensures ∙ rw (ends (c .before .before .before)) (sym (run-passes _ _ _))
 
 pub run-from-spec : {M : Type 1} → statement M
 run-from-spec = tie.close (tie.spec set-of-requires run-end-requires single-at-requires returns run-on-requires returns-2)

@@ -1,30 +1,29 @@
 use Prim.Native.Nat.{_-_}
-use mathlib.Core.Path.{_≡_, refl, sym, ap, _∙_}
+use mathlib.Core.Path.{_≡_, refl, sym, _∙_}
 use native.Mathlib.Omega.{arith}
 use lib.ListN.{length}
-use Rattle.answers.specs.declared.Place.{Place}
-use Rattle.answers.specs.declared.Position.{Position}
-use Rattle.answers.specs.declared.Refusal.the-variants.{Unclassified}
 use Rattle.chars.specs.declared.Read.the-variants.{Char}
 use Rattle.chars.specs.View.{foldedAt, foldedFrom}
 use Rattle.chars.proofs.ViewLaws.{folded-onward}
-use Rattle.runs.specs.declared.Ran.the-variants.{Stopped}
 use Rattle.runs.specs.Comments as rules
 use Rattle.runs.specs.inner.Runs.{classOf}
-use Rattle.runs.proofs.RunLaws.{run-end, run-ill, run-inside, run-outside, run-unknown}
+use Rattle.runs.proofs.RunLaws.{run-end, run-ill, run-inside, run-outside, run-over}
 use borrow.Author.Needs.{needs}
 use Rattle.runs.proofs.runs.run_on.Statement.{statement}
 use Rattle.runs.proofs.runs.run_on.Tie as tie
 
 abbrev Inv-loop : tie.InvT-loop
-Inv-loop text offset run at₀ at = rules.run (classOf run) offset (foldedFrom text at₀) ≡ rules.run (classOf run) offset (foldedFrom text at)
+Inv-loop text run at₀ at = rules.run (classOf run) (foldedFrom text at₀) ≡ rules.run (classOf run) (foldedFrom text at)
 
 abbrev μ-loop : tie.MeasureT-loop
-μ-loop text offset run at₀ at = length text - at .0
+μ-loop text run at₀ at = length text - at .0
 
 -- a character stands here
-stands : (c : tie.After-c Inv-loop μ-loop) → foldedAt (c .before .before .before .before .before .args .text .now) (c .before .before .before .loop .at) ≡ Char (c .c .given .0 .0) (c .c .given .0 .1 .0)
+stands : (c : tie.After-c Inv-loop μ-loop) → foldedAt (c .before .before .before .before .before .before .args .text .now) (c .before .before .before .loop .at) ≡ Char (c .c .given .0 .0) (c .c .given .0 .1 .0)
 stands c = sym (c .before .before .folded-at .ensures) ∙ c .c .given .1
+
+passed-over-requires : tie.Need-passed-over-requires Inv-loop μ-loop
+passed-over-requires c κs = search needs
 
 loop-holds : tie.Need-loop-holds Inv-loop μ-loop
 loop-holds c = refl
@@ -36,43 +35,28 @@ enum-told : tie.Need-enum-told Inv-loop μ-loop
 enum-told c = search needs
 
 returns : tie.Need-returns Inv-loop μ-loop
-returns c = sym (c .before .before .before .loop .inv ∙ run-end _ _ _ _ (sym (c .before .before .folded-at .ensures) ∙ c .enum-told .given .1))
+returns c = sym (run-over _ _ _ ∙ rw (← c .before .before .before .before .passed-over .ensures) (c .before .before .before .loop .inv ∙ run-end _ _ _ (sym (c .before .before .folded-at .ensures) ∙ c .enum-told .given .1)))
 
 enum-known-ill : tie.Need-enum-known-ill Inv-loop μ-loop
 enum-known-ill c = search needs
 
 returns-2 : tie.Need-returns-2 Inv-loop μ-loop
-returns-2 c = sym (c .before .before .before .before .loop .inv ∙ run-ill _ _ _ _ _ (sym (c .before .before .before .folded-at .ensures) ∙ c .before .ill .given .1))
+returns-2 c = sym (run-over _ _ _ ∙ rw (← c .before .before .before .before .before .passed-over .ensures) (c .before .before .before .before .loop .inv ∙ run-ill _ _ _ _ (sym (c .before .before .before .folded-at .ensures) ∙ c .before .ill .given .1)))
 
 enum-known-c : tie.Need-enum-known-c Inv-loop μ-loop
 enum-known-c c = search needs
 
-class-of-requires : tie.Need-class-of-requires Inv-loop μ-loop
-class-of-requires c κs = search needs
-
-enum-told-2 : tie.Need-enum-told-2 Inv-loop μ-loop
-enum-told-2 c = search needs
+in-class-requires : tie.Need-in-class-requires Inv-loop μ-loop
+in-class-requires c κs = search needs
 
 loop-less : tie.Need-loop-less Inv-loop μ-loop
-loop-less c = omega (arith, folded-onward _ _ _ _ (stands (c .before .before .before .before)))
+loop-less c = omega (arith, folded-onward _ _ _ _ (stands (c .before .before .before)))
 
 loop-again : tie.Need-loop-again Inv-loop μ-loop
-loop-again c = c .before .before .before .before .before .before .before .loop .inv ∙ run-inside _ _ _ _ _ _ (stands (c .before .before .before .before)) (sym (c .before .before .class-of .ensures) ∙ c .enum-told2 .given .1)
-
-enum-told-3 : tie.Need-enum-told-3 Inv-loop μ-loop
-enum-told-3 c = search needs
+loop-again c = c .before .before .before .before .before .before .loop .inv ∙ run-inside _ _ _ _ _ (stands (c .before .before .before)) (sym (c .before .in-class .ensures) ∙ c .if1 .taken)
 
 returns-3 : tie.Need-returns-3 Inv-loop μ-loop
-returns-3 c = sym (c .before .before .before .before .before .before .before .loop .inv ∙ run-outside _ _ _ _ _ _ (stands (c .before .before .before .before)) (sym (c .before .before .class-of .ensures) ∙ c .enum-told3 .given .1))
-
-enum-told-4 : tie.Need-enum-told-4 Inv-loop μ-loop
-enum-told-4 c = search needs
-
-in-map-requires : tie.Need-in-map-requires Inv-loop μ-loop
-in-map-requires c κs = search needs
-
-returns-4 : tie.Need-returns-4 Inv-loop μ-loop
-returns-4 c = sym (c .before .before .before .before .before .before .before .before .loop .inv ∙ run-unknown _ _ _ _ _ _ (stands (c .before .before .before .before .before)) (sym (c .before .before .before .class-of .ensures) ∙ c .before .enum-told4 .given .1) ∙ rw (← c .in-map .ensures))
+returns-3 c = sym (run-over _ _ _ ∙ rw (← c .before .before .before .before .before .before .before .passed-over .ensures) (c .before .before .before .before .before .before .loop .inv ∙ run-outside _ _ _ _ _ (stands (c .before .before .before)) (sym (c .before .in-class .ensures) ∙ c .if1 .left)))
 
 pub run-on-spec : {M : Type 1} → statement M
 run-on-spec =
@@ -80,6 +64,7 @@ run-on-spec =
     (tie.spec
     Inv-loop
     μ-loop
+    passed-over-requires
     loop-holds
     folded-at-requires
     enum-told
@@ -87,12 +72,7 @@ run-on-spec =
     enum-known-ill
     returns-2
     enum-known-c
-    class-of-requires
-    enum-told-2
+    in-class-requires
     loop-less
     loop-again
-    enum-told-3
-    returns-3
-    enum-told-4
-    in-map-requires
-    returns-4)
+    returns-3)

@@ -1,3 +1,4 @@
+use Rattle.classes.specs.inner.Runs.{keylikeSet}
 use Rattle.runs.specs.inner.Runs.{setOf}
 use borrow.Author.Needs.{needs}
 use Rattle.runs.proofs.runs.set_of.Statement.{statement}
@@ -21,7 +22,7 @@ unfolding setOf
 returns-2 c = rw (c .enum-told2 .given .1)
 
 returns-3 : tie.Need-returns-3
-unfolding setOf
+unfolding setOf keylikeSet
 returns-3 c = rw (c .enum-told3 .given .1)
 
 pub set-of-spec : {M : Type 1} → statement M

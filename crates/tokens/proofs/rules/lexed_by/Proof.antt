@@ -1,4 +1,5 @@
 use mathlib.Core.Path.{_≡_, sym, _∙_}
+use Rattle.terms.proofs.TestLaws.{fails}
 use Rattle.chars.specs.View.{foldedFrom}
 use Rattle.tokens.specs.Tokens.{ruleOf, lexedBy}
 use Rattle.tokens.proofs.SettledLaws.{settled-same, settled-not}
@@ -75,8 +76,8 @@ enum-known-kind c = search needs
 enum-told-8 : tie.Need-enum-told-8
 enum-told-8 c = search needs
 
-no-rule-requires : tie.Need-no-rule-requires
-no-rule-requires c κs i = settled-not _ _ (sym (c .before .before .settled-rule .ensures) ∙ c .enum-told8 .given .1) i
+in-map-requires-2 : tie.Need-in-map-requires-2
+in-map-requires-2 c κs = search needs
 
 returns : tie.Need-returns
 unfolding lexedBy classOf
@@ -112,7 +113,13 @@ returns-8 c = rw (← same (c .before .before .before), c .before .kind .given .
 
 returns-9 : tie.Need-returns-9
 unfolding lexedBy classOf
-returns-9 c = rw (← same (c .before .before .before), c .before .enum-told8 .given .1) (c .no-rule .ensures _)
+returns-9 c =
+    rw (
+      ← same (c .before .before .before),
+      c .before .enum-told8 .given .1,
+      fails _ (settled-not _ _ (sym (c .before .before .before .settled-rule .ensures) ∙ c .before .enum-told8 .given .1)),
+      ← c .in-map2 .ensures,
+    )
 
 pub lexed-by-spec : {M : Type 1} → statement M
 lexed-by-spec =
@@ -139,7 +146,7 @@ lexed-by-spec =
     word-rule-requires
     enum-known-kind
     enum-told-8
-    no-rule-requires
+    in-map-requires-2
     returns
     returns-2
     returns-3

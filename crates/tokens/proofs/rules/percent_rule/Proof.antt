@@ -1,6 +1,6 @@
 use mathlib.Core.Path.{sym, _∙_}
 use Rattle.chars.proofs.ViewLaws.{folded-end, folded-ill, folded-char}
-use Rattle.tokens.specs.Tokens.{percentRule, classedBy}
+use Rattle.tokens.specs.Tokens.{percentRule}
 use Rattle.runs.specs.inner.Runs.{classOf}
 use borrow.Author.Needs.{needs}
 use Rattle.tokens.proofs.rules.percent_rule.Statement.{statement}
@@ -21,43 +21,27 @@ enum-known-c c = search needs
 is-keylike-start-requires : tie.Need-is-keylike-start-requires
 is-keylike-start-requires c κs = search needs
 
-enum-told-2 : tie.Need-enum-told-2
-enum-told-2 c = search needs
-
 run-on-requires : tie.Need-run-on-requires
 run-on-requires c κs = search needs
 
 as-token-requires : tie.Need-as-token-requires
 as-token-requires c κs = search needs
 
-enum-told-3 : tie.Need-enum-told-3
-enum-told-3 c = search needs
-
-enum-told-4 : tie.Need-enum-told-4
-enum-told-4 c = search needs
-
-in-map-requires : tie.Need-in-map-requires
-in-map-requires c κs = search needs
-
 returns : tie.Need-returns
-unfolding percentRule
-returns c = rw (folded-end _ _ (sym (c .before .before .folded-at .ensures) ∙ c .enum-told .given .1))
+unfolding percentRule classOf
+returns c = rw (folded-char _ _ _ _ (sym (c .before .before .before .before .before .before .before .folded-at .ensures) ∙ c .before .before .before .before .before .c .given .1), ← c .before .before .before .is-keylike-start .ensures, c .before .before .if1 .taken, ← c .before .run-on .ensures) (c .as-token .ensures)
 
 returns-2 : tie.Need-returns-2
 unfolding percentRule
-returns-2 c = rw (folded-ill _ _ _ (sym (c .before .before .before .folded-at .ensures) ∙ c .before .ill .given .1))
+returns-2 c = rw (folded-end _ _ (sym (c .before .before .folded-at .ensures) ∙ c .enum-told .given .1))
 
 returns-3 : tie.Need-returns-3
-unfolding percentRule classedBy classOf
-returns-3 c = rw (folded-char _ _ _ _ (sym (c .before .before .before .before .before .before .before .before .folded-at .ensures) ∙ c .before .before .before .before .before .before .c .given .1), ← c .before .before .before .before .is-keylike-start .ensures, c .before .before .enum-told2 .given .1, ← c .before .run-on .ensures) (c .as-token .ensures)
+unfolding percentRule
+returns-3 c = rw (folded-ill _ _ _ (sym (c .before .before .before .folded-at .ensures) ∙ c .before .ill .given .1))
 
 returns-4 : tie.Need-returns-4
-unfolding percentRule classedBy
-returns-4 c = rw (folded-char _ _ _ _ (sym (c .before .before .before .before .before .before .folded-at .ensures) ∙ c .before .before .before .before .c .given .1), ← c .before .before .is-keylike-start .ensures, c .enum-told3 .given .1)
-
-returns-5 : tie.Need-returns-5
-unfolding percentRule classedBy
-returns-5 c = rw (folded-char _ _ _ _ (sym (c .before .before .before .before .before .before .before .folded-at .ensures) ∙ c .before .before .before .before .before .c .given .1), ← c .before .before .before .is-keylike-start .ensures, c .before .enum-told4 .given .1, ← c .in-map .ensures)
+unfolding percentRule
+returns-4 c = rw (folded-char _ _ _ _ (sym (c .before .before .before .before .before .folded-at .ensures) ∙ c .before .before .before .c .given .1), ← c .before .is-keylike-start .ensures, c .if1 .left)
 
 pub percent-rule-spec : {M : Type 1} → statement M
 percent-rule-spec =
@@ -68,14 +52,9 @@ percent-rule-spec =
     enum-known-ill
     enum-known-c
     is-keylike-start-requires
-    enum-told-2
     run-on-requires
     as-token-requires
-    enum-told-3
-    enum-told-4
-    in-map-requires
     returns
     returns-2
     returns-3
-    returns-4
-    returns-5)
+    returns-4)

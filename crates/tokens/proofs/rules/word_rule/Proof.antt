@@ -12,7 +12,7 @@ use Rattle.tokens.proofs.rules.word_rule.Tie as tie
 
 -- the word's end is not before its start, and within the text
 ends : (c : tie.After-end) → (c .before .before .before .before .args .next .0 ≤ c .end .given .0 .0 .0) × (c .end .given .0 .0 .0 ≤ length (c .before .before .before .before .args .text .now))
-ends c = run-to _ _ _ _ (c .before .before .before .before .pre .1) _ (sym (c .before .before .run-from .ensures) ∙ c .end .given .1)
+ends c = run-to _ _ _ (c .before .before .before .before .pre .1) _ (sym (c .before .before .run-from .ensures) ∙ c .end .given .1)
 
 run-from-requires : tie.Need-run-from-requires
 run-from-requires c κs = search needs

@@ -4,10 +4,10 @@ use mathlib.Core.List.{[]}
 use native.Mathlib.Omega.{arith}
 use borrow.Author.Needs.{needs}
 use Rattle.terms.specs.Terms.{said, within}
-use Rattle.chars.specs.Classes.{hexDigits, toHex}
+use Rattle.chars.specs.Hex.{hexDigits, toHex}
 use Rattle.terms.proofs.TableLaws.{in-match, word, isKey, isKeys, up, down}
-use Rattle.chars.proofs.classes.to_hex.Statement.{statement}
-use Rattle.chars.proofs.classes.to_hex.Tie as tie
+use Rattle.chars.proofs.hex.to_hex.Statement.{statement}
+use Rattle.chars.proofs.hex.to_hex.Tie as tie
 
 returns : tie.Need-returns
 unfolding toHex hexDigits said within word isKey isKeys up down

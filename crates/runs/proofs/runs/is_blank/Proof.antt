@@ -1,7 +1,7 @@
 use borrow.Author.Tests.{eq-eqb, ne-eqb}
 use Rattle.runs.specs.Comments.{blank}
-use Rattle.runs.proofs.runs.blank_class.Statement.{statement}
-use Rattle.runs.proofs.runs.blank_class.Tie as tie
+use Rattle.runs.proofs.runs.is_blank.Statement.{statement}
+use Rattle.runs.proofs.runs.is_blank.Tie as tie
 
 returns : tie.Need-returns
 unfolding blank
@@ -19,5 +19,5 @@ returns-4 : tie.Need-returns-4
 unfolding blank
 returns-4 c = rw (ne-eqb _ _ (c .before .before .if1 .left), ne-eqb _ _ (c .before .if2 .left), ne-eqb _ _ (c .if3 .left))
 
-pub blank-class-spec : {M : Type 1} → statement M
-blank-class-spec = tie.close (tie.spec returns returns-2 returns-3 returns-4)
+pub is-blank-spec : {M : Type 1} → statement M
+is-blank-spec = tie.close (tie.spec returns returns-2 returns-3 returns-4)
