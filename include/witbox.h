@@ -49,8 +49,7 @@ enum witbox_number {
     WITBOX_UNEXPECTED = 7,
     /* block comment without end; map position of its start */
     WITBOX_UNTERMINATED_COMMENT = 8,
-    /* character above U+02C1 that a token rule has to classify; map position, the character */
-    WITBOX_UNCLASSIFIED = 9,
+    /* 9 is not given any more, and is not used again */
     /* raw character that no string may hold; place, the character */
     WITBOX_INVALID_STRING_ELEMENT = 10,
     /* bad escape; place behind the backslash, the character */

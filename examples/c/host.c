@@ -93,7 +93,6 @@ static const char *message(uint32_t number)
     case WITBOX_FORBIDDEN_CODEPOINT: return "a character that changes the direction of text may not stand in a text";
     case WITBOX_UNEXPECTED: return "no token begins with this character";
     case WITBOX_UNTERMINATED_COMMENT: return "this block comment does not end";
-    case WITBOX_UNCLASSIFIED: return "outside strings and comments nothing above U+02C1 is known";
     case WITBOX_INVALID_STRING_ELEMENT: return "a string may hold this character by an escape only";
     case WITBOX_INVALID_STRING_ESCAPE: return "a backslash with this character behind it is no escape";
     case WITBOX_WANTED_CHAR: return "a brace is wanted here";
@@ -122,7 +121,6 @@ static long place_of(const struct source *source, uint32_t number, uint32_t posi
     case WITBOX_OUT_OF_MAP: return -1;
     case WITBOX_UNEXPECTED:
     case WITBOX_UNTERMINATED_COMMENT:
-    case WITBOX_UNCLASSIFIED:
     case WITBOX_UNEXPECTED_EOF:
     case WITBOX_INVALID_UTF8: return (long)(position - source->offset);
     default: return (long)position;

@@ -78,8 +78,6 @@ pub enum Error {
     OutOfMap,
     /// 3, at a place: bytes that are no UTF-8.
     IllFormed(u32),
-    /// 9, in the map: a character above U+02C1 that a token rule has to classify.
-    Unclassified(u32, char),
     /// 22: a span that lies badly, or that is no string or identifier.
     BadSpan,
     /// 23: a cursor beyond the text. A [`Tokenizer`](crate::Tokenizer)'s never is.
@@ -147,7 +145,6 @@ impl Error {
             6 => Error::ForbiddenCodepoint(at, character?),
             7 => Error::Unexpected(at, character?),
             8 => Error::UnterminatedComment(at),
-            9 => Error::Unclassified(at, character?),
             10 => Error::InvalidStringElement(at, character?),
             11 => Error::InvalidStringEscape(at, character?),
             12 => Error::WantedChar(at, character?),
@@ -188,7 +185,6 @@ impl Error {
             Error::ForbiddenCodepoint(at, found) => [6, at, found.into()],
             Error::Unexpected(at, found) => [7, at, found.into()],
             Error::UnterminatedComment(at) => [8, at, 0],
-            Error::Unclassified(at, found) => [9, at, found.into()],
             Error::InvalidStringElement(at, found) => [10, at, found.into()],
             Error::InvalidStringEscape(at, found) => [11, at, found.into()],
             Error::WantedChar(at, wanted) => [12, at, wanted.into()],
@@ -227,7 +223,7 @@ impl Error {
         }
     }
 
-    /// Its number in `docs/REFUSALS.md` and `include/witbox.h`, from 1 to 30, or 33.
+    /// Its number in `docs/REFUSALS.md` and `include/witbox.h`, from 1 to 30 but 9, or 33.
     pub fn number(&self) -> u32 {
         self.numbers()[0]
     }
@@ -247,7 +243,7 @@ impl Error {
         let [number, position, _] = self.numbers();
         match number {
             3..=6 | 10..=12 | 15..=18 => Some(At::Place(position)),
-            7..=9 | 13 | 14 | 19..=21 => Some(At::Map(position)),
+            7 | 8 | 13 | 14 | 19..=21 => Some(At::Map(position)),
             _ => None,
         }
     }
@@ -339,13 +335,6 @@ impl fmt::Display for Error {
             }
             Error::Unexpected(_, found) => write!(f, "no token begins with {found:?}"),
             Error::UnterminatedComment(_) => write!(f, "this block comment does not end"),
-            Error::Unclassified(_, found) => {
-                write!(
-                    f,
-                    "outside strings and comments nothing above U+02C1 is known, and this is {}",
-                    Numbered(found)
-                )
-            }
             Error::InvalidStringElement(_, found) => {
                 write!(f, "a string may hold {} by an escape only", Numbered(found))
             }
@@ -420,7 +409,10 @@ mod tests {
 
     #[test]
     fn numbers_there_and_back() {
-        for number in (1..30).chain([33]).filter(|&number| number != 21) {
+        for number in (1..30)
+            .chain([33])
+            .filter(|number| ![9, 21].contains(number))
+        {
             let [position, detail] = Error::told(number, 0, 0).at().map_or([0, 0], |_| [7, 0]);
             let error = Error::told(number, position, detail);
             assert_eq!(error.numbers(), [number, position, detail]);
@@ -435,9 +427,17 @@ mod tests {
 
     #[test]
     fn unknown_numbers_stay() {
-        for numbers in [[31, 2, 3], [0, 0, 0], [7, 1, 0xD800], [21, 1, 256 * 67]] {
+        for numbers in [
+            [31, 2, 3],
+            [9, 6, 955],
+            [0, 0, 0],
+            [7, 1, 0xD800],
+            [21, 1, 256 * 67],
+        ] {
             let [number, position, detail] = numbers;
-            assert_eq!(Error::told(number, position, detail).numbers(), numbers);
+            let error = Error::told(number, position, detail);
+            assert_eq!(error.numbers(), numbers);
+            assert!(matches!(error, Error::Other { .. }), "{number}");
         }
     }
 

@@ -111,16 +111,15 @@ fn test_tokenizer() {
         "_a_p_p_l_e_",
         "garçon",
         "hühnervögel",
+        "москва",
+        "東京",
+        "garçon-hühnervögel-москва-東京",
         "a0",
         "a",
-        "APPLE",
-        "APPLE-PEAR",
-        "APPLE-PEAR-GRAPE",
-        "apple-PEAR-grape",
-        "APPLE-pear-GRAPE",
-        "ENOENT",
-        "is-XML",
-    ] {
+    ]
+    .into_iter()
+    .chain(GOOD_IDS[7..14].iter().copied())
+    {
         assert_eq!(collect(text), Ok(vec![Id]), "{text:?}");
     }
     for text in ["%a", "%a-a", "%bool", "%"] {
@@ -143,14 +142,38 @@ fn test_tokenizer() {
     assert_eq!(collect("borrow"), Ok(vec![Borrow]));
 }
 
-/// lex.rs takes these three as identifiers. Here a character above U+02C1 is refusal 9.
+/// A name in any script is an identifier to the tokenizer, and its check refuses it.
 #[test]
-fn test_tokenizer_above_the_known_characters() {
-    assert_eq!(collect("москва"), Err(Error::Unclassified(0, 'м')));
-    assert_eq!(collect("東京"), Err(Error::Unclassified(0, '東')));
-    let text = "garçon-hühnervögel-москва-東京";
-    let at = text.find('м').unwrap() as u32;
-    assert_eq!(collect(text), Err(Error::Unclassified(at, 'м')));
+fn names_in_every_script() {
+    let text = "interface %δωμάτιο { use ορόφους.{κλειδί}; }";
+    let kinds = [
+        Interface, ExplicitId, LeftBrace, Use, Id, Period, LeftBrace, Id, RightBrace, Semicolon,
+        RightBrace,
+    ];
+    assert_eq!(collect(text).as_deref(), Ok(&kinds[..]));
+    let mut tokens = Tokenizer::new(text, 100).unwrap();
+    tokens.expect(Interface).unwrap();
+    let name = tokens.expect(ExplicitId).unwrap();
+    assert_eq!(tokens.get_span(name), "%δωμάτιο");
+    let refusal = tokens.parse_explicit_id(name);
+    assert_eq!(refusal, Err(Error::InvalidCharInId(110, 'δ')));
+    // letters of four bytes, and a mark behind a letter
+    for text in ["\u{10400}", "\u{20000}", "a\u{301}"] {
+        assert_eq!(collect(text), Ok(vec![Id]), "{text:?}");
+    }
+}
+
+/// A mark begins no token; what Unicode 14 has no letter for begins none and ends the name before it, as the byte order mark does.
+#[test]
+fn strangers_in_names() {
+    for found in ['\u{301}', '\u{200c}', '\u{2c2}', '\u{1e4d0}', '\u{10ffff}'] {
+        let text = found.to_string();
+        assert_eq!(collect(&text), Err(Error::Unexpected(0, found)));
+    }
+    for found in ['\u{feff}', '\u{2c2}', '\u{200c}', '\u{cf3}'] {
+        let text = format!("λ{found}");
+        assert_eq!(collect(&text), Err(Error::Unexpected(2, found)));
+    }
 }
 
 #[test]
