@@ -10,7 +10,8 @@ import sys
 
 TOP = pathlib.Path(__file__).resolve().parent.parent
 CRATES = TOP / "crates"
-MOST_LINES = 600 + 20  # of definitions that a reviewer reads: the base, and request §6
+MOST_LINES = 600 + 20  # of definitions that a reviewer reads: the base, and requests §3 and §6
+WRITTEN = ("XidStart.antt", "XidContinue.antt")  # by tools/unicode/ranges.py, which checks them: not counted
 
 
 def public(crate):
@@ -40,7 +41,7 @@ def main():
         for spec in sorted(crate.glob("specs/*.antt")):
             if spec.stem in ("Lib", "inner"):
                 continue
-            lines += lines_of(spec)
+            lines += lines_of(spec) if spec.name not in WRITTEN else 0
             if f"../crates/{crate.name}/specs/{spec.name}" not in page:
                 missing.append(f"definition file {spec.relative_to(TOP)}")
     if lines >= MOST_LINES:

@@ -28,7 +28,7 @@ fn main() {
     fs::write(out, followed(&here, &ast.canonicalize().unwrap())).unwrap();
 }
 
-/// The modules that hold the two files: lex.rs as it is, lex.rs with its class table watched, and toposort.rs.
+/// The modules that hold the two files.
 fn followed(here: &Path, ast: &Path) -> String {
     let lex = ast.join("lex.rs");
     let sort = ast.join("toposort.rs");
@@ -36,7 +36,6 @@ fn followed(here: &Path, ast: &Path) -> String {
     let held = "#[allow(dead_code, unused_imports, clippy::all)]";
     format!(
         "{held}\npub mod lex {{\n    include!({lex:?});\n    include!({inside:?});\n}}\n\
-         {held}\npub mod watched {{\n    use crate::watch as unicode_ident;\n    include!({lex:?});\n    include!({inside:?});\n}}\n\
          {held}\n#[path = {sort:?}]\npub mod toposort;\n\
          /// The text of lex.rs, for the inputs of its own tests.\npub static LEX: &str = include_str!({lex:?});\n"
     )

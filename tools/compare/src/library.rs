@@ -77,22 +77,21 @@ pub fn run_on(call: &Call, words: &mut [u32], bytes: &mut [u8]) -> Numbers {
             Ask::ExplicitId => named(witbox_parse_explicit_id(
                 text, length, offset, call.a, call.b,
             )),
-            Ask::Sort => counted(witbox_toposort(
-                call.sheet.as_ptr(),
-                call.sheet.len(),
-                text,
-                length,
-                words.as_mut_ptr(),
-                words.len(),
-            )),
-            Ask::Propose => counted(witbox_propose(
-                call.sheet.as_ptr(),
-                call.sheet.len(),
-                text,
-                length,
-                words.as_mut_ptr(),
-                words.len(),
-            )),
+            Ask::Sort | Ask::Propose => {
+                let order = if matches!(call.ask, Ask::Sort) {
+                    witbox_toposort
+                } else {
+                    witbox_propose
+                };
+                counted(order(
+                    call.sheet.as_ptr(),
+                    call.sheet.len(),
+                    text,
+                    length,
+                    words.as_mut_ptr(),
+                    words.len(),
+                ))
+            }
             Ask::CheckOrder => {
                 let r = witbox_check_order(
                     call.sheet.as_ptr(),

@@ -15,6 +15,7 @@ mod old;
 mod progress;
 mod reduce;
 mod rng;
+mod share;
 mod show;
 mod side;
 mod walk;
@@ -30,6 +31,7 @@ use side::Side;
 const USAGE: &str = "usage: compare [--model] [--first] [--jobs N] COMMAND
   folder DIR            every file below DIR
   exhaust [LENGTH]      every short text, scalar, byte sequence and sheet (LENGTH 5)
+  scalars               every scalar beside what asks whether it begins or continues a word
   fuzz SECONDS SEED     texts and sheets by chance
   record [FILE]         the list that 'cases' replays (crates/cases/data/answers.txt)
   bench                 times of both sides, to docs/BENCH.md and docs/bench.svg
@@ -88,6 +90,7 @@ fn run(options: &Options, words: &[String]) -> bool {
         ["exhaust", length] => {
             commands::exhaust::exhaust(options.side, number(length), options.jobs)
         }
+        ["scalars"] => commands::scalars::scalars(options.side, options.jobs),
         ["folder", folder] => {
             let compared = commands::folder::folder(options.side, Path::new(folder));
             compared.unwrap_or_else(|why| fail(&why))

@@ -3,9 +3,9 @@
 //! [`judge`] answers nothing where a call lies outside the paper's domain; there the second reading decides.
 
 use old_side::ast::error::ParseErrorKind;
-use old_side::ast::watched::{Error, Span, Token, Tokenizer};
-use old_side::ast::{lex, toposort::toposort, Id};
-use old_side::{watch, IndexMap};
+use old_side::ast::lex::{Error, Span, Token, Tokenizer};
+use old_side::ast::{toposort::toposort, Id};
+use old_side::IndexMap;
 use std::panic::{catch_unwind, AssertUnwindSafe};
 use std::str::from_utf8;
 
@@ -27,18 +27,13 @@ pub fn judge(call: &Call) -> Option<Outcome> {
         return None;
     }
     let text = from_utf8(call.bytes).ok()?;
-    watch::take();
-    let outcome = catch(|| match call.ask {
+    catch(|| match call.ask {
         Ask::Open => Some(open(text, call.offset)),
         Ask::ListRaw | Ask::List => list(text, call),
         Ask::String => string(text, call),
         Ask::Id | Ask::ExplicitId => identifier(text, call),
         _ => step(text, call),
-    });
-    if watch::take().is_some() {
-        return None;
-    }
-    outcome
+    })
 }
 
 /// Runs the Rust; a panic inside the domain is a difference like any other, shown as number 4,294,967,295.
@@ -187,7 +182,6 @@ fn list(text: &str, call: &Call) -> Option<Outcome> {
 /// string, and its `string_literal` gives the value.
 fn string(text: &str, call: &Call) -> Option<Outcome> {
     Tokenizer::new(text, call.offset).ok()?;
-    watch::take();
     let quote = call.a.checked_sub(call.offset)? as usize;
     if text.as_bytes().get(quote) != Some(&b'"') {
         return None;
@@ -277,7 +271,7 @@ pub fn sheet_map<'a>(sheet: &[u32], names: &'a [u8]) -> Option<IndexMap<&'a str,
         let mut needs = Vec::with_capacity(item[3] as usize);
         for i in item[2]..item[2] + item[3] {
             let edge = &edges[4 * i as usize..][..4];
-            needs.push(Id::new(named(edge)?, lex::Span::new(i, i)));
+            needs.push(Id::new(named(edge)?, Span::new(i, i)));
         }
         map.insert(named(item)?, needs);
     }

@@ -27,6 +27,11 @@ impl Progress {
         }
     }
 
+    /// How many there are to be done.
+    pub fn total(&self) -> u64 {
+        self.total
+    }
+
     /// So many more done.
     pub fn advance(&mut self, more: u64) {
         self.done += more;

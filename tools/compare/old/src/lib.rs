@@ -5,7 +5,6 @@
 extern crate alloc;
 
 pub mod ast;
-pub mod watch;
 
 pub use ast::error::{ParseErrorKind, ParseResult};
 

@@ -1,15 +1,12 @@
 //! `exhaust [LENGTH]`: every text up to a length over a telling alphabet, at two offsets; every scalar; every short byte sequence;
 //! every small sheet, and every short list proposed as its order.
 
-use std::sync::atomic::{AtomicUsize, Ordering};
-use std::sync::Mutex;
-
 use crate::call::{Ask, Call};
 use crate::check::Checker;
 use crate::generate::{orders, sheets};
 use crate::progress::Progress;
 use crate::side::Side;
-use crate::walk;
+use crate::{share, walk};
 
 /// The symbols: each is there for a rule that it starts, extends, ends or breaks.
 pub const ALPHABET: [&[u8]; 22] = [
@@ -32,7 +29,7 @@ pub const ALPHABET: [&[u8]; 22] = [
     b"B",
     b"\xe2",         // begins a character of three bytes, which nothing here finishes
     b"\xc3\xa9",     // U+00E9, a letter of two bytes
-    b"\xcb\x82",     // U+02C2, the first that is not classified
+    b"\xcc\x81",     // U+0301, a mark: goes on with a word and begins none
     b"\xef\xbb\xbf", // U+FEFF, the byte order mark
     b"\xff",         // never part of a character
 ];
@@ -71,30 +68,19 @@ pub fn exhaust(side: Side, length: usize, jobs: usize) -> bool {
 fn texts_of(total: &mut Checker, side: Side, length: usize, jobs: usize) {
     let n = ALPHABET.len();
     let starts = if length < 2 { 1 } else { n * n };
-    let next = AtomicUsize::new(0);
-    let progress = Mutex::new(Progress::new("starts", starts as u64));
-    let results = Mutex::new(Vec::new());
-    std::thread::scope(|scope| {
-        for _ in 0..jobs {
-            scope.spawn(|| {
-                let mut checker = Checker::new(side);
-                loop {
-                    let start = next.fetch_add(1, Ordering::Relaxed);
-                    if start >= starts {
-                        break;
-                    }
-                    if length < 2 {
-                        longer(&mut checker, &mut Vec::new(), length);
-                    } else {
-                        from(&mut checker, start, length);
-                    }
-                    progress.lock().unwrap().advance(1);
-                }
-                results.lock().unwrap().push(checker);
-            });
-        }
-    });
-    for checker in results.into_inner().unwrap() {
+    let checkers = share::out(
+        jobs,
+        Progress::new("starts", starts as u64),
+        || Checker::new(side),
+        |checker, start| {
+            if length < 2 {
+                longer(checker, &mut Vec::new(), length);
+            } else {
+                from(checker, start, length);
+            }
+        },
+    );
+    for checker in checkers {
         total.absorb(checker);
     }
 }

@@ -6,3 +6,4 @@ pub mod folder;
 pub mod fuzz;
 pub mod mutants;
 pub mod record;
+pub mod scalars;

@@ -1,11 +1,11 @@
-//! Texts by chance: fragments, strings, realistic WIT, bare bytes, and any of them damaged.
+//! Texts by chance: fragments, strings, words of many scripts, realistic WIT, bare bytes, and any of them damaged.
 
-use super::wit;
+use super::{scripts, wit};
 use crate::model::KEYWORDS;
 use crate::rng::Rng;
 
 /// Pieces that start, extend, end or break a token.
-pub const FRAGMENTS: [&[u8]; 76] = [
+pub const FRAGMENTS: [&[u8]; 80] = [
     b"a",
     b"b",
     b"Z",
@@ -73,9 +73,13 @@ pub const FRAGMENTS: [&[u8]; 76] = [
     b"\xc3\xa9",         // U+00E9
     b"\xc3\x97",         // U+00D7, between letters
     b"\xc5\x89",         // U+0149, deprecated
-    b"\xcb\x81",         // U+02C1, the last that is classified
-    b"\xcb\x82",         // U+02C2
+    b"\xcb\x81",         // U+02C1, a letter
+    b"\xcb\x82",         // U+02C2, none
+    b"\xcc\x81",         // U+0301, a mark: goes on with a word and begins none
     b"\xce\xbb",         // a Greek letter
+    b"\xe6\x9d\xb1",     // a Chinese one
+    b"\xf0\x90\x90\x80", // U+10400, a letter of four bytes
+    b"\xe2\x80\x8c",     // U+200C, a joiner: in no word
     b"\xe2\x80\xae",     // U+202E, forbidden
     b"\xef\xbb\xbf",     // the byte order mark
     b"\xf0\x9f\x98\xbc", // four bytes
@@ -129,10 +133,12 @@ pub fn text(rng: &mut Rng) -> Vec<u8> {
         0 => bytes(rng),
         1..=5 => soup(rng),
         6..=8 => string(rng),
-        9..=11 => words(rng),
+        9..=10 => words(rng),
+        11..=12 => scripts::words(rng).into_bytes(),
         _ => {
+            let tongue = rng.pick(&[&wit::ENGLISH, &wit::ENGLISH, &wit::GREEK]);
             let size = rng.pick(&[80, 300, 1_500]);
-            wit::source(rng, size).into_bytes()
+            wit::source(rng, tongue, size).into_bytes()
         }
     };
     if rng.one_in(3) {

@@ -93,37 +93,35 @@ pub fn screen(bytes: &[u8]) -> Result<(), Refusal> {
     Ok(())
 }
 
-/// What the two classes say of a character.
-#[derive(Clone, Copy, PartialEq, Eq, Debug)]
-pub enum Class {
-    Inside,
-    Outside,
-    /// Above U+02C1: not to be classified.
-    Above,
-}
+/// The last character whose classes 01 lists itself.
+const LISTED: u32 = 0x2c1;
 
-fn class(c: u32, inside: bool) -> Class {
-    match (c > 0x2c1, inside) {
-        (true, _) => Class::Above,
-        (_, true) => Class::Inside,
-        _ => Class::Outside,
-    }
-}
-
+/// Unicode's XID_Start: as 01 lists it, and above that what the Rust's own crate says. A table made as the library's is made would
+/// share its faults.
 fn xid_start(c: u32) -> bool {
+    if c > LISTED {
+        return char::from_u32(c).is_some_and(unicode_ident::is_xid_start);
+    }
     matches!(c, 0x41..=0x5a | 0x61..=0x7a | 0xaa | 0xb5 | 0xba)
         || matches!(c, 0xc0..=0xd6 | 0xd8..=0xf6 | 0xf8..=0x2c1)
 }
 
+/// Unicode's XID_Continue, likewise.
+fn xid_continue(c: u32) -> bool {
+    if c > LISTED {
+        return char::from_u32(c).is_some_and(unicode_ident::is_xid_continue);
+    }
+    xid_start(c) || matches!(c, 0x30..=0x39 | 0x5f | 0xb7)
+}
+
 /// XID_Start, `_` or `-`.
-pub fn keylike_start(c: u32) -> Class {
-    class(c, xid_start(c) || c == 0x5f || c == 0x2d)
+pub fn keylike_start(c: u32) -> bool {
+    xid_start(c) || c == 0x5f || c == 0x2d
 }
 
 /// XID_Continue or `-`.
-pub fn keylike_continuation(c: u32) -> Class {
-    let more = matches!(c, 0x30..=0x39 | 0x5f | 0xb7 | 0x2d);
-    class(c, xid_start(c) || more)
+pub fn keylike_continuation(c: u32) -> bool {
+    xid_continue(c) || c == 0x2d
 }
 
 /// The value of a hexadecimal digit.

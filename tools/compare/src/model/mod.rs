@@ -1,7 +1,8 @@
 //! A second reading of the interface paper (01), for any bytes, numbers and rooms.
 //!
-//! Written from the paper and its readings alone: no line of the product, of lex.rs or of toposort.rs stands behind it. It is plain
-//! before it is fast. Where the paper's domain ends it is the judge; inside the domain it is itself held against the Rust.
+//! Written from the paper and its readings alone: no line of the product, of lex.rs or of toposort.rs stands behind it, and for the
+//! identifier table above U+02C1 it asks the crate that lex.rs asks. It is plain before it is fast. Where the paper's domain ends it
+//! is the judge; inside the domain it is itself held against the Rust.
 
 mod characters;
 mod kinds;

@@ -3,7 +3,7 @@
 //! A rule that examines an ill-formed sequence answers 3 there. It examines each character that it tests, also one that only ends
 //! a run or fails to extend a mark.
 
-use super::characters::{folded, keylike_continuation, keylike_start, Class, Seen};
+use super::characters::{folded, keylike_continuation, keylike_start, Seen};
 use super::{kinds, strings, Refusal, Text};
 
 /// A token: its kind, its place and the place behind it.
@@ -38,15 +38,11 @@ pub fn raw(text: &Text, start: usize) -> Result<Option<Token>, Refusal> {
         (kinds::STRING_LITERAL, end)
     } else if digit(c) {
         (kinds::INTEGER, run(text, next, digit)?)
+    } else if keylike_start(c) {
+        let end = run(text, next, keylike_continuation)?;
+        (word(&text.bytes[start..end]), end)
     } else {
-        match keylike_start(c) {
-            Class::Above => return Err(above(text, start, c)),
-            Class::Outside => return Err(Refusal(7, text.position(start), c)),
-            Class::Inside => {
-                let end = continuations(text, next)?;
-                (word(&text.bytes[start..end]), end)
-            }
-        }
+        return Err(Refusal(7, text.position(start), c));
     };
     Ok(Some(Token { kind, start, end }))
 }
@@ -68,10 +64,6 @@ fn digit(c: u32) -> bool {
     (0x30..=0x39).contains(&c)
 }
 
-fn above(text: &Text, at: usize, c: u32) -> Refusal {
-    Refusal(9, text.position(at), c)
-}
-
 /// Where the longest run of such characters ends.
 fn run(text: &Text, mut at: usize, of: fn(u32) -> bool) -> Result<usize, Refusal> {
     while let Some((c, next)) = examine(text, at)? {
@@ -83,27 +75,11 @@ fn run(text: &Text, mut at: usize, of: fn(u32) -> bool) -> Result<usize, Refusal
     Ok(at)
 }
 
-/// Where the longest run of keylike continuations ends.
-fn continuations(text: &Text, mut at: usize) -> Result<usize, Refusal> {
-    while let Some((c, next)) = examine(text, at)? {
-        match keylike_continuation(c) {
-            Class::Above => return Err(above(text, at, c)),
-            Class::Outside => break,
-            Class::Inside => at = next,
-        }
-    }
-    Ok(at)
-}
-
 /// Behind `%`: a keylike start and the longest run of continuations, or nothing.
 fn explicit(text: &Text, at: usize) -> Result<usize, Refusal> {
-    let Some((c, next)) = examine(text, at)? else {
-        return Ok(at);
-    };
-    match keylike_start(c) {
-        Class::Above => Err(above(text, at, c)),
-        Class::Outside => Ok(at),
-        Class::Inside => continuations(text, next),
+    match examine(text, at)? {
+        Some((c, next)) if keylike_start(c) => run(text, next, keylike_continuation),
+        _ => Ok(at),
     }
 }
 

@@ -1,7 +1,7 @@
 //! The texts and sheets that are timed, the same each time.
 
 use crate::generate::sheets::{self, Sheet};
-use crate::generate::wit;
+use crate::generate::wit::{self, Tongue};
 use crate::model::{self, ROW_CAP};
 use crate::rng::Rng;
 
@@ -21,32 +21,34 @@ pub fn texts() -> Vec<Text> {
         bytes: text.into_bytes(),
     };
     vec![
-        named("realistic", realistic(LONG)),
+        named("realistic", realistic(&wit::ENGLISH, LONG)),
+        named("Greek", realistic(&wit::GREEK, LONG)),
         named("comments", comments(LONG)),
-        named("words", words(LONG)),
+        named("words", words(&NAMES, LONG)),
+        named("Greek words", words(&GREEK_NAMES, LONG)),
         named("strings", strings(LONG)),
-        named("small", realistic(1_100)),
+        named("small", realistic(&wit::ENGLISH, 1_100)),
     ]
 }
 
 fn cut(mut text: String, size: usize) -> String {
-    let end = text[..size.min(text.len())].rfind('\n').unwrap_or(0);
+    let front = &text.as_bytes()[..size.min(text.len())];
+    let end = front.iter().rposition(|&b| b == b'\n').unwrap_or(0);
     text.truncate(end + 1);
     text
 }
 
 /// WIT with the remarks that such files have above most lines.
-fn realistic(size: usize) -> String {
+fn realistic(tongue: &'static Tongue, size: usize) -> String {
     let mut rng = Rng::new(7);
-    let plain = wit::source(&mut rng, size).replace("\r\n", "\n");
+    let plain = wit::source(&mut rng, tongue, size).replace("\r\n", "\n");
     let mut text = String::new();
     for line in plain.lines() {
         let indent = &line[..line.len() - line.trim_start().len()];
         let tells = line.ends_with(';') || line.ends_with('{') || line.ends_with(',');
         if tells && !rng.one_in(3) {
             for _ in 0..1 + rng.below(4) {
-                text += indent;
-                text += "/// Says what the caller may rely on here, and what is left to the panel's maker.\n";
+                text += &format!("{indent}/// {}\n", tongue.remark);
             }
         }
         text += line;
@@ -69,16 +71,18 @@ fn comments(size: usize) -> String {
     cut(text, size)
 }
 
-fn words(size: usize) -> String {
+/// The names among the words.
+const NAMES: [&str; 5] = ["booking", "key-card", "sensor", "LAMP", "garçon"];
+const GREEK_NAMES: [&str; 5] = ["κράτηση", "κάρτα-κλειδί", "αισθητήρας", "ΛΑΜΠΑ", "δωμάτιο"];
+
+fn words(names: &[&str], size: usize) -> String {
     let mut text = String::new();
     let mut rng = Rng::new(9);
     while text.len() < size {
         let word = match rng.below(3) {
             0 => model::KEYWORDS[rng.below(44)].0.to_string(),
             1 => format!("item-{}", rng.below(1_000)),
-            _ => rng
-                .pick(&["booking", "key-card", "sensor", "LAMP", "garçon"])
-                .to_string(),
+            _ => rng.pick(names).to_string(),
         };
         text += &word;
         text.push(if rng.one_in(9) { '\n' } else { ' ' });

@@ -50,7 +50,7 @@ pub fn pairs<R: Runner + 'static>() -> Vec<Pair> {
             pairs.push(decoding::<R>(input, text.bytes.clone(), spans));
         }
         let names = self::spans(&text.bytes, |t| t == Token::Id);
-        if text.name == "words" || text.name == "realistic" {
+        if matches!(text.name, "realistic" | "Greek" | "words" | "Greek words") {
             let input = format!("{}, {} identifiers", text.name, names.len());
             pairs.push(identifiers::<R>(input, text.bytes.clone(), names));
         }

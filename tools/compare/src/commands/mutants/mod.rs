@@ -1,4 +1,4 @@
-//! `mutants` and `wrong`: the tool tried on wrong libraries. `exhaust 3` or 60 seconds of `fuzz` must notice each.
+//! `mutants` and `wrong`: the tool tried on wrong libraries. `exhaust 3`, `scalars` or 60 seconds of `fuzz` must notice each.
 
 mod library;
 mod model;
@@ -13,7 +13,7 @@ pub use library::of_library;
 pub use model::of_model;
 
 /// The trials that a wrong library has to be noticed by one of.
-const TRIALS: [&[&str]; 2] = [&["exhaust", "3"], &["fuzz", "60", "1"]];
+const TRIALS: [&[&str]; 3] = [&["exhaust", "3"], &["scalars"], &["fuzz", "60", "1"]];
 
 /// How long a trial may take before it is said not to end.
 const PATIENCE: Duration = Duration::from_secs(180);

@@ -13,7 +13,7 @@ pub struct Mutant {
 }
 
 /// Edits of `src/model`.
-pub const MUTANTS: [Mutant; 39] = [
+pub const MUTANTS: [Mutant; 45] = [
     Mutant {
         rule: "1 at 65,537 bytes, not before",
         file: "mod.rs",
@@ -63,16 +63,52 @@ pub const MUTANTS: [Mutant; 39] = [
         new: "0x2066..=0x2068",
     },
     Mutant {
-        rule: "U+02C1 is classified",
+        rule: "U+02C1 begins a word",
         file: "characters.rs",
-        old: "c > 0x2c1",
-        new: "c > 0x2c0",
+        old: "0xf8..=0x2c1",
+        new: "0xf8..=0x2c0",
+    },
+    Mutant {
+        rule: "U+02C2 begins no word",
+        file: "characters.rs",
+        old: "(unicode_ident::is_xid_start)",
+        new: "(|c| c == '\\u{2c2}' || unicode_ident::is_xid_start(c))",
+    },
+    Mutant {
+        rule: "a letter of the table begins a word (U+03BB)",
+        file: "characters.rs",
+        old: "(unicode_ident::is_xid_start)",
+        new: "(|c| c != '\\u{3bb}' && unicode_ident::is_xid_start(c))",
+    },
+    Mutant {
+        rule: "a mark begins no word",
+        file: "characters.rs",
+        old: "(unicode_ident::is_xid_start)",
+        new: "(unicode_ident::is_xid_continue)",
+    },
+    Mutant {
+        rule: "a mark goes on with a word (U+0301)",
+        file: "characters.rs",
+        old: "(unicode_ident::is_xid_continue)",
+        new: "(|c| c != '\\u{301}' && unicode_ident::is_xid_continue(c))",
+    },
+    Mutant {
+        rule: "a range has its last character (U+2A6DF)",
+        file: "characters.rs",
+        old: "(unicode_ident::is_xid_continue)",
+        new: "(|c| c != '\\u{2a6df}' && unicode_ident::is_xid_continue(c))",
+    },
+    Mutant {
+        rule: "what came with Unicode 15 is outside (U+1E4D0)",
+        file: "characters.rs",
+        old: "(unicode_ident::is_xid_start)",
+        new: "(|c| c == '\\u{1e4d0}' || unicode_ident::is_xid_start(c))",
     },
     Mutant {
         rule: "U+00B7 continues a word",
         file: "characters.rs",
-        old: "0x5f | 0xb7 | 0x2d",
-        new: "0x5f | 0x2d",
+        old: "0x5f | 0xb7)",
+        new: "0x5f)",
     },
     Mutant {
         rule: "opening stands behind a byte order mark",
@@ -89,8 +125,8 @@ pub const MUTANTS: [Mutant; 39] = [
     Mutant {
         rule: "no RArrow in a->b",
         file: "tokens.rs",
-        old: "            Class::Outside => break,\n            Class::Inside => at = next,",
-        new: "            Class::Inside if text.bytes[at..].starts_with(b\"->\") => break,\n            Class::Outside => break,\n            Class::Inside => at = next,",
+        old: "if !of(c) {",
+        new: "if !of(c) || text.bytes[at..].starts_with(b\"->\") {",
     },
     Mutant {
         rule: "/*/ is no whole comment",
@@ -107,8 +143,8 @@ pub const MUTANTS: [Mutant; 39] = [
     Mutant {
         rule: "`%` takes a keylike start, not any continuation",
         file: "tokens.rs",
-        old: "    match keylike_start(c) {\n        Class::Above => Err",
-        new: "    match keylike_continuation(c) {\n        Class::Above => Err",
+        old: "Some((c, next)) if keylike_start(c)",
+        new: "Some((c, next)) if keylike_continuation(c)",
     },
     Mutant {
         rule: "keywords by number (resource and record)",
