@@ -1,6 +1,6 @@
 -- What a text that passes 1 and 2 has: a length, and positions that are sums as they stand.
 use Prim.Native.Nat.{ℕ, _+_, _≤_, min}
-use mathlib.Core.Path.{_≡_, refl, ap}
+use mathlib.Core.Path.{_≡_, refl}
 use mathlib.Core.Bool.{Bool, true, false}
 use native.Mathlib.Omega.{arith}
 use lib.Dec.{leb}

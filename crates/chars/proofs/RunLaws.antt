@@ -1,13 +1,13 @@
 -- A run of bytes of one set is as many characters, of one byte each.
 use Prim.Native.Nat.{ℕ, _-_, _/_, _%_, _^_, _≤_, _<_, min}
-use mathlib.Core.Path.{_≡_, refl, ap}
+use mathlib.Core.Path.{_≡_, refl}
 use mathlib.Core.Bool.{Bool, true, false, not, _||_}
 use mathlib.Core.List.{List}
 use native.Mathlib.Omega.{arith}
 use lib.Dec.{ltb, eqb}
 use lib.ListN.{length}
 use borrow.Author.Tests.{ltb-true, not-true, not-false}
-use Rattle.terms.specs.Terms.{if_then_else_, first}
+use Rattle.terms.specs.Terms.{if_then_else_}
 use Rattle.terms.proofs.TestLaws.{clash}
 use Rattle.terms.proofs.BelowLaws.{allBelow, below}
 use Rattle.terms.proofs.FirstLaws.{first-le, first-from, first-passes}

@@ -10,7 +10,7 @@ use Rattle.answers.specs.declared.Place.{Place}
 use Rattle.answers.specs.declared.Ill.{Ill as Sequence}
 use Rattle.chars.specs.declared.Read.{Read}
 use Rattle.chars.specs.declared.Read.the-variants.{End, Ill, Char}
-use Rattle.chars.specs.View.{Chars, end, ill, char, foldedAt, foldedFrom}
+use Rattle.chars.specs.View.{Chars, char, foldedAt, foldedFrom}
 use Rattle.chars.proofs.ViewLaws.{folded-onward, folded-ill-at, folded-end, folded-ill, folded-char}
 use Rattle.classes.specs.Classes.{keylikeContinue}
 use Rattle.classes.specs.inner.Runs.{keylikeEnd}

@@ -4,7 +4,6 @@ use crate::kind_names::name_of;
 use crate::options::Asked;
 use crate::refusing;
 use answers::Place;
-use answers::Span;
 use files::Out;
 use kinds::Token;
 use steps::Moved;

@@ -1,4 +1,4 @@
 -- Screening.
 pub mod Screening
--- What only inner contracts cite.
+-- What no host's contract needs.
 pub mod inner

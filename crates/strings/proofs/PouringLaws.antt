@@ -6,7 +6,7 @@ use mathlib.Core.List.{List, [], _++_}
 use mathlib.Core.Logic.{⊎-elim}
 use native.Mathlib.Omega.{arith}
 use lib.Dec.{ltb, eqb}
-use lib.ListN.{length, getD, take, drop, length-append, length-take, length-drop, take-append-drop}
+use lib.ListN.{length, getD, take, drop, length-append, length-drop, take-append-drop}
 use lib.Seq.{paste, take-paste, drop-paste, length-paste, length-take-le, take-length, drop-drop}
 use borrow.Author.Tests.{ltb-false, eqb-true, eqb-false, ne-eqb}
 use Rattle.terms.specs.Terms.{first}
@@ -26,8 +26,7 @@ use Rattle.encoding.proofs.EncodeLaws.{encode-tails}
 use Rattle.encoding.proofs.RoundTrip.{read-width, read-byte, ascii-byte}
 use Rattle.strings.specs.declared.Inside.the-variants.{Plain}
 use Rattle.strings.specs.declared.More.{More}
-use Rattle.strings.specs.declared.Turn.{Turn}
-use Rattle.strings.specs.declared.Turn.the-variants.{Close, Fail}
+use Rattle.strings.specs.declared.Turn.the-variants.{Fail}
 use Rattle.strings.specs.declared.Element.the-variants.{Adds, Close as Closes, Fail as Fails}
 use Rattle.strings.specs.Strings.{plainTurn, turnOf, added, Gathered, bytes, refused, gather}
 use Rattle.strings.specs.inner.Walking.{Comes, Leads, Raw}

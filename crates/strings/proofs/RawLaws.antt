@@ -1,11 +1,11 @@
 -- Raw characters: a run of them equals as many plain turns (`Raw` of `specs/inner/Walking.antt`).
 use Prim.Native.Nat.{ℕ, zero, suc, _≤_, _<_, _+_, _-_}
-use mathlib.Core.Path.{_≡_, sym, ap, subst, _∙_}
-use mathlib.Core.Bool.{Bool, true, false, not, _||_}
+use mathlib.Core.Path.{_≡_, sym, subst, _∙_}
+use mathlib.Core.Bool.{Bool, true, not, _||_}
 use mathlib.Core.List.{List, [], _++_}
 use native.Mathlib.Omega.{arith}
 use native.Mathlib.Nat.{add-zero, add-assoc}
-use lib.Dec.{ltb, eqb}
+use lib.Dec.{eqb}
 use lib.ListN.{length, getD, take, drop, length-take}
 use lib.Seq.{take-add, drop-drop}
 use borrow.Author.Tests.{le-ltb, ne-eqb, eqb-false, not-true, not-false}
@@ -16,7 +16,7 @@ use Rattle.terms.proofs.FirstLaws.{none-before, first-le, first-from}
 use Rattle.answers.specs.declared.Place.{Place}
 use Rattle.answers.specs.Places.{place}
 use Rattle.answers.specs.Caps.{cap}
-use Rattle.chars.specs.Utf8.{byteAt, onBy, charAt, encode}
+use Rattle.chars.specs.Utf8.{byteAt, onBy, charAt}
 use Rattle.chars.specs.View.{foldedAt}
 use Rattle.chars.specs.declared.Read.the-variants.{Char}
 use Rattle.chars.proofs.Utf8Laws.{onward, scalar, four-at-most, ascii-at}

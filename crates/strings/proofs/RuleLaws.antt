@@ -1,6 +1,6 @@
 -- The loop of the string rule: what it has come to, its steps, and what it answers.
 use Prim.Native.Nat.{ℕ, _≤_, _<_, _+_}
-use mathlib.Core.Path.{_≡_, refl, ap, _∙_}
+use mathlib.Core.Path.{_≡_, refl, _∙_}
 use mathlib.Core.List.{List, [], _++_}
 use native.Mathlib.Omega.{arith}
 use native.Mathlib.Nat.{zero-add}
@@ -8,7 +8,6 @@ use lib.ListN.{length, take, drop, length-append, length-take, length-drop}
 use Rattle.answers.specs.declared.Place.{Place}
 use Rattle.answers.specs.declared.Position.{Position}
 use Rattle.answers.specs.declared.Refusal.{Refusal}
-use Rattle.answers.specs.Caps.{cap}
 use Rattle.chars.specs.Utf8.{onBy}
 use Rattle.chars.specs.View.{foldedFrom}
 use Rattle.chars.proofs.ViewLaws.{folded-place}

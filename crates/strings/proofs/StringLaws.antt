@@ -18,7 +18,6 @@ use Rattle.strings.specs.declared.Inside.the-variants.{Plain}
 use Rattle.strings.specs.declared.More.{More}
 use Rattle.strings.specs.declared.Turn.{Turn}
 use Rattle.strings.specs.declared.Turn.the-variants.{On, Close, Fail}
-use Rattle.strings.specs.declared.Literal.{Literal}
 use Rattle.strings.specs.declared.Literal.the-variants.{Closed, Refused}
 use Rattle.strings.specs.Strings.{turnOf, added, Gathered, bytes, refused, gather, Judged, whole, illAt, judged, closedBy, literalOf, stringLiteral}
 use Rattle.strings.specs.inner.Walking.{Sound, begun}

@@ -1,10 +1,9 @@
 -- The second walk of decoding: what is stored (`specs/inner/Writing.antt`), and that unmarked bytes of an accepted string are raw characters.
-use Prim.Native.Nat.{ℕ, zero, suc, _≤_, _<_, _+_, _-_}
+use Prim.Native.Nat.{ℕ, suc, _≤_, _<_, _+_, _-_}
 use mathlib.Core.Path.{_≡_, refl, ap, _∙_}
 use mathlib.Core.Bool.{Bool, true, false}
 use mathlib.Core.List.{List, [], _∷_, _++_, append-nil, append-assoc}
 use native.Mathlib.Omega.{arith}
-use lib.Dec.{leb}
 use lib.ListN.{length, getD, set, take, drop, length-drop, drop-of-length-le}
 use lib.Seq.{paste, paste-zero, paste-suc, length-paste, take-length, take-all, drop-drop, getD-drop, sets-eq}
 use borrow.Author.Tests.{le-leb}

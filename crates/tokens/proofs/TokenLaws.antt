@@ -14,7 +14,7 @@ use Rattle.answers.specs.Places.{inMap}
 use Rattle.answers.specs.Caps.{cap}
 use Rattle.chars.specs.declared.Read.{Read}
 use Rattle.chars.specs.declared.Read.the-variants.{End as Ended, Ill, Char}
-use Rattle.chars.specs.View.{end, ill, char, placeOf, foldedAt, foldedFrom}
+use Rattle.chars.specs.View.{end, placeOf, foldedAt, foldedFrom}
 use Rattle.classes.specs.Classes.{keylikeStart, keylikeContinue}
 use Rattle.chars.proofs.ViewLaws.{folded-end, folded-ill, folded-char, folded-place, folded-onward, folded-end-at}
 use Rattle.chars.proofs.LocalLaws.{Alike, view-alike}

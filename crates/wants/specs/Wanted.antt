@@ -6,7 +6,6 @@ use lib.Dec.{leb, eqb}
 use Rattle.terms.specs.Terms.{if_then_else_}
 use Rattle.answers.specs.declared.Place.{Place}
 use Rattle.answers.specs.declared.Position.{Position}
-use Rattle.answers.specs.declared.Span.{Span}
 use Rattle.answers.specs.declared.Verdict.{Verdict}
 use Rattle.answers.specs.declared.Verdict.the-variants.{Accepted, Refused}
 use Rattle.answers.specs.declared.Refusal.{Refusal}

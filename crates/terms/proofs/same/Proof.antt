@@ -1,7 +1,7 @@
 use Prim.Native.Nat.{_-_, _≤_}
 use mathlib.Core.Path.{_≡_, refl, sym, _∙_}
 use native.Mathlib.Omega.{arith}
-use lib.ListN.{length, take, drop}
+use lib.ListN.{length, drop}
 use Rattle.terms.specs.Terms.{sameBytes}
 use Rattle.terms.proofs.BytesLaws.{same-longer, same-step, same-differ, same-end}
 use borrow.Author.Needs.{needs}

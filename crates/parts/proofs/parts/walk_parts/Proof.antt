@@ -9,7 +9,6 @@ use Rattle.chars.proofs.Utf8Laws.{onward}
 use Rattle.chars.proofs.RunLaws.{run-beyond}
 use Rattle.parts.specs.declared.Part.{Part}
 use Rattle.parts.specs.Parts.{partsFrom}
-use Rattle.parts.specs.inner.Runs as R
 use Rattle.parts.proofs.PartLaws.{part-passes, parts-ended, parts-end, parts-ill, parts-on, parts-empty, parts-bad}
 use borrow.Author.Needs.{needs}
 use Rattle.parts.proofs.parts.walk_parts.Statement.{statement}
