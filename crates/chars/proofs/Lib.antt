@@ -5,5 +5,8 @@ pub mod SeekLaws
 pub mod SingleLaws
 pub mod RunLaws
 pub mod LocalLaws
+pub mod EncodeLaws
+-- Reading and encoding undo each other.
+pub mod RoundTrip
 -- One answer for each contract.
 pub mod OneAnswer

@@ -23,8 +23,8 @@ use Rattle.chars.specs.declared.Lead.{Lead}
 use Rattle.chars.specs.declared.Lead.the-variants.{Alone, Two, Three, Four, Never}
 use Rattle.chars.proofs.Utf8Laws.{Lawful, lawful, byte-in, onward}
 use Rattle.chars.proofs.ViewLaws.{chars-end, chars-ill, chars-char}
-use Rattle.encoding.proofs.EncodeLaws.{encode-one, encode-two, encode-three, encode-four}
-use Rattle.encoding.proofs.RoundTrip.{read-encode}
+use Rattle.chars.proofs.EncodeLaws.{encode-one, encode-two, encode-three, encode-four}
+use Rattle.chars.proofs.RoundTrip.{read-encode}
 use Rattle.strings.specs.declared.Seen.{Seen}
 use Rattle.strings.specs.declared.Seen.the-variants.{Well, Part, Ill}
 use Rattle.strings.specs.declared.More.{More}

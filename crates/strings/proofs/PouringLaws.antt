@@ -22,8 +22,8 @@ use Rattle.chars.specs.View.{Chars, foldedAt, foldedFrom}
 use Rattle.chars.specs.declared.Read.the-variants.{Char}
 use Rattle.chars.proofs.Utf8Laws.{onward}
 use Rattle.chars.proofs.ViewLaws.{folded-is, folded-onward}
-use Rattle.encoding.proofs.EncodeLaws.{encode-tails}
-use Rattle.encoding.proofs.RoundTrip.{read-width, read-byte, ascii-byte}
+use Rattle.chars.proofs.EncodeLaws.{encode-tails}
+use Rattle.chars.proofs.RoundTrip.{read-width, read-byte, ascii-byte}
 use Rattle.strings.specs.declared.Inside.the-variants.{Plain}
 use Rattle.strings.specs.declared.More.{More}
 use Rattle.strings.specs.declared.Turn.the-variants.{Fail}

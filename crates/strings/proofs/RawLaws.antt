@@ -21,7 +21,7 @@ use Rattle.chars.specs.View.{foldedAt}
 use Rattle.chars.specs.declared.Read.the-variants.{Char}
 use Rattle.chars.proofs.Utf8Laws.{onward, scalar, four-at-most, ascii-at}
 use Rattle.chars.proofs.ViewLaws.{as-folded}
-use Rattle.encoding.proofs.RoundTrip.{encode-read, ascii-byte}
+use Rattle.chars.proofs.RoundTrip.{encode-read, ascii-byte}
 use Rattle.strings.specs.declared.Inside.the-variants.{Plain}
 use Rattle.strings.specs.declared.More.the-variants.{Whole}
 use Rattle.strings.specs.declared.Turn.the-variants.{On}

@@ -20,8 +20,8 @@ use Rattle.chars.specs.declared.Read.{Read}
 use Rattle.chars.specs.declared.Read.the-variants.{End, Ill, Char}
 use Rattle.chars.proofs.Utf8Laws.{each, scalar-low}
 use Rattle.chars.proofs.ViewLaws.{folded-end, folded-ill, folded-char, folded-onward, folded-scalar, folded-ascii-at}
-use Rattle.encoding.proofs.EncodeLaws.{encode-one, encode-most}
-use Rattle.encoding.proofs.RoundTrip.{folded-width}
+use Rattle.chars.proofs.EncodeLaws.{encode-one, encode-most}
+use Rattle.chars.proofs.RoundTrip.{folded-width}
 use Rattle.strings.specs.declared.Inside.{Inside}
 use Rattle.strings.specs.declared.Inside.the-variants.{Plain, Escape, Half, Brace, First, Number}
 use Rattle.strings.specs.declared.More.{More}

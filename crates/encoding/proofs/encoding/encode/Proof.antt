@@ -5,7 +5,7 @@ use native.Mathlib.Omega.{arith}
 use borrow.Author.Tests.{not-true, not-false}
 use lib.ListN.{length, length-set}
 use Rattle.chars.specs.Utf8.{isScalar, encode}
-use Rattle.encoding.proofs.EncodeLaws.{encode-one, encode-two, encode-three, encode-four, encoded-none, encoded-short, encoded-by}
+use Rattle.chars.proofs.EncodeLaws.{encode-one, encode-two, encode-three, encode-four, encoded-none, encoded-short, encoded-by}
 use Rattle.chars.proofs.Utf8Laws.{scalar-at-most}
 use borrow.Author.Needs.{needs}
 use Rattle.encoding.proofs.encoding.encode.Statement.{statement}

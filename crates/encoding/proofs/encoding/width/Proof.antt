@@ -1,4 +1,4 @@
-use Rattle.encoding.proofs.EncodeLaws.{encode-one, encode-two, encode-three, encode-four}
+use Rattle.chars.proofs.EncodeLaws.{encode-one, encode-two, encode-three, encode-four}
 use Rattle.encoding.proofs.encoding.width.Statement.{statement}
 use Rattle.encoding.proofs.encoding.width.Tie as tie
 

@@ -1,5 +1,5 @@
 use native.Mathlib.Omega.{arith}
-use Rattle.encoding.proofs.EncodeLaws.{encode-most}
+use Rattle.chars.proofs.EncodeLaws.{encode-most}
 use Rattle.strings.specs.Strings.{added}
 use borrow.Author.Needs.{needs}
 use Rattle.strings.proofs.rule.size.Statement.{statement}

@@ -18,15 +18,15 @@ use Rattle.answers.specs.declared.Verdict.the-variants.{Accepted}
 use Rattle.answers.specs.Places.{place}
 use Rattle.answers.proofs.CapsLaws.{refused-not}
 use Rattle.answers.specs.Caps.{cap}
 use Rattle.chars.specs.Utf8.{byteAt, onBy, leads, leadOf, isTail, charBy, charAt, isScalar, encode}
 use Rattle.chars.specs.View.{Chars, end, ill, char, charsFrom, foldedAt, wellFormed}
 use Rattle.chars.specs.declared.Read.{Read}
 use Rattle.chars.specs.declared.Read.the-variants.{End, Ill, Char}
 use Rattle.chars.specs.declared.Lead.{Lead}
 use Rattle.chars.specs.declared.Lead.the-variants.{Alone, Two, Three, Four, Never}
 use Rattle.chars.proofs.Utf8Laws.{Onward, onward, end-at, chosen, scalar-is, scalar-at-most, lawful, two-in, three-in, four-in, char-is, char-not-end, char-not-ill}
 use Rattle.chars.proofs.ViewLaws.{chars-end, chars-ill, chars-char, folded-onward, folded-is}
-use Rattle.encoding.proofs.EncodeLaws.{encode-one, encode-two, encode-three, encode-four}
+use Rattle.chars.proofs.EncodeLaws.{encode-one, encode-two, encode-three, encode-four}
 
 -- what the first bytes of the encodings start, and that the second byte is in the range that the first gives
 lead-two : (b : ℕ) → 0xC2 ≤ b → b ≤ 0xDF → leadOf b ≡ Two 0x80 0xBF

@@ -1,1 +1,0 @@
--- Nothing of its own: what the bytes of a character are stands beside how they are read, in `chars`.
