@@ -29,6 +29,19 @@ use Rattle.runs.specs.declared.Run.{Run}
 use Rattle.runs.specs.Comments.{blank, digit, run}
 use Rattle.runs.specs.inner.Runs.{classOf, passedOver, setOf}
 
+-- a run's class by its name
+pub blanks-class : classOf Run.Blanks ≡ blank
+unfolding classOf
+blanks-class = refl
+
+pub digits-class : classOf Run.Digits ≡ digit
+unfolding classOf
+digits-class = refl
+
+pub keylike-class : classOf Run.Keylike ≡ keylikeContinue
+unfolding classOf
+keylike-class = refl
+
 module _ (class : ℕ → Bool) (s : List ℕ) (p : Place) where
   pub run-end : foldedAt s p ≡ End → run class (foldedFrom s p) ≡ To p
   unfolding run

@@ -25,6 +25,7 @@ use Rattle.tokens.specs.declared.Raw.{Raw}
 use Rattle.tokens.specs.Tokens.{rawAt}
 use Rattle.steps.specs.declared.Opened.{Opened}
 use Rattle.steps.specs.declared.Step.{Step}
+use Rattle.steps.specs.declared.Moved.{Moved}
 use Rattle.steps.specs.Stream.{tokensFrom}
 use Rattle.steps.specs.Steps.{marked, opened, openedBy, cursorVerdict, stepVerdict, moved, movedBy, isBlank, nextStep, nextAt}
 use Rattle.steps.proofs.StreamLaws.{tokens-done, tokens-stop, tokens-token}
@@ -44,10 +45,19 @@ pub step-fits : (s : List ℕ) (o : ℕ) (p : Place) → Stands s o p → stepVe
 unfolding stepVerdict cursorVerdict
 step-fits s o p w = first-accepted (textVerdict o (length s)) (cursorVerdict s p) (fits-text o (length s) (w .fits)) ∙ rw (le-leb (p .0) (length s) (w .within))
 
+-- a step whose checks accept answers what it found; where they refuse, the cursor stays
+pub moved-on : (v : Verdict) (p : Place) (m : Moved) → v ≡ Accepted → movedBy v p m ≡ m
+unfolding movedBy
+moved-on v p m e = rw e
+
+pub moved-refused : (v : Verdict) (p : Place) (m : Moved) (f : Refusal) → v ≡ Verdict.Refused f → movedBy v p m ≡ moved (Step.Refused f) p
+unfolding movedBy
+moved-refused v p m f e = rw e
+
 -- next is then what the tokens from there on say
 pub next-fits : (s : List ℕ) (o : ℕ) (p : Place) → Stands s o p → nextAt s o p ≡ nextStep p (tokensFrom s o p)
-unfolding nextAt movedBy
-next-fits s o p w = rw (step-fits s o p w)
+unfolding nextAt
+next-fits s o p w = moved-on _ _ _ (step-fits s o p w)
 
 module _ (from : Place) (s : List ℕ) (o : ℕ) (p : Place) where
   pub next-end : rawAt s o p ≡ Raw.End → nextStep from (tokensFrom s o p) ≡ moved Step.End p

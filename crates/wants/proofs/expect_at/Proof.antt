@@ -1,8 +1,7 @@
 use mathlib.Core.Path.{sym, _∙_}
 use native.Mathlib.Omega.{arith}
 use Rattle.answers.proofs.CapsLaws.{first-both}
-use Rattle.steps.proofs.StepLaws.{step-in}
-use Rattle.steps.specs.Steps.{movedBy}
+use Rattle.steps.proofs.StepLaws.{step-in, moved-on, moved-refused}
 use Rattle.wants.specs.Wanted.{expectAt}
 use Rattle.wants.proofs.WantedLaws.{wanted-in}
 use borrow.Author.Needs.{needs}
@@ -16,8 +15,8 @@ enum-known-refusal : tie.Need-enum-known-refusal
 enum-known-refusal c = search needs
 
 returns : tie.Need-returns
-unfolding expectAt movedBy
-returns c = rw (← c .before .before .before .check-wanted .ensures, c .before .refusal .given .1)
+unfolding expectAt
+returns c = sym (moved-refused _ _ _ _ (sym (c .before .before .before .check-wanted .ensures) ∙ c .before .refusal .given .1))
 
 enum-told : tie.Need-enum-told
 enum-told c = search needs
@@ -35,8 +34,8 @@ expect-step-requires : tie.Need-expect-step-requires
 expect-step-requires c κs = wanted-in _ (first-both _ _ (sym (c .before .before .before .before .before .check-wanted .ensures) ∙ c .before .before .before .enum-told .given .1) .1)
 
 returns-2 : tie.Need-returns-2
-unfolding expectAt movedBy
-returns-2 c = rw (← c .before .before .before .before .before .before .check-wanted .ensures, c .before .before .before .before .enum-told .given .1, ← c .before .before .before .in-map .ensures, ← c .before .before .next-step .ensures) (c .expect-step .ensures)
+unfolding expectAt
+returns-2 c = rw (← c .before .before .before .in-map .ensures, ← c .before .before .next-step .ensures) (c .expect-step .ensures) ∙ sym (moved-on _ _ _ (sym (c .before .before .before .before .before .before .check-wanted .ensures) ∙ c .before .before .before .before .enum-told .given .1))
 
 pub expect-at-spec : {M : Type 1} → statement M
 expect-at-spec =

@@ -3,7 +3,7 @@ use Rattle.terms.proofs.TestLaws.{fails}
 use Rattle.chars.specs.View.{foldedFrom}
 use Rattle.tokens.specs.Tokens.{ruleOf, lexedBy}
 use Rattle.tokens.proofs.SettledLaws.{settled-same, settled-not}
-use Rattle.runs.specs.inner.Runs.{classOf}
+use Rattle.runs.proofs.RunLaws.{blanks-class, digits-class, keylike-class}
 use Rattle.chars.proofs.ViewLaws.{folded-place}
 use borrow.Author.Needs.{needs}
 use Rattle.tokens.proofs.rules.lexed_by.Statement.{statement}
@@ -80,39 +80,39 @@ in-map-requires-2 : tie.Need-in-map-requires-2
 in-map-requires-2 c κs = search needs
 
 returns : tie.Need-returns
-unfolding lexedBy classOf
-returns c = rw (← same (c .before .before .before .before), c .before .before .enum-told .given .1, ← c .before .run-from .ensures) (c .as-token .ensures)
+unfolding lexedBy
+returns c = rw (← same (c .before .before .before .before), c .before .before .enum-told .given .1, ← blanks-class, ← c .before .run-from .ensures) (c .as-token .ensures)
 
 returns-2 : tie.Need-returns-2
-unfolding lexedBy classOf
+unfolding lexedBy
 returns-2 c = rw (← same (c .before .before .before), c .before .enum-told2 .given .1) (c .slash-rule .ensures)
 
 returns-3 : tie.Need-returns-3
-unfolding lexedBy classOf
+unfolding lexedBy
 returns-3 c = rw (← same (c .before .before .before), c .before .enum-told3 .given .1) (c .dash-rule .ensures)
 
 returns-4 : tie.Need-returns-4
-unfolding lexedBy classOf
+unfolding lexedBy
 returns-4 c = rw (← same (c .before .before .before), c .before .enum-told4 .given .1) (c .percent-rule .ensures)
 
 returns-5 : tie.Need-returns-5
-unfolding lexedBy classOf
+unfolding lexedBy
 returns-5 c = rw (← same (c .before .before .before .before .before), c .before .before .before .enum-told5 .given .1, folded-place, ← c .before .before .in-map .ensures, ← c .before .expect-string-literal .ensures) (c .as-string .ensures)
 
 returns-6 : tie.Need-returns-6
-unfolding lexedBy classOf
-returns-6 c = rw (← same (c .before .before .before .before), c .before .before .enum-told6 .given .1, ← c .before .run-from2 .ensures) (c .as-token2 .ensures)
+unfolding lexedBy
+returns-6 c = rw (← same (c .before .before .before .before), c .before .before .enum-told6 .given .1, ← digits-class, ← c .before .run-from2 .ensures) (c .as-token2 .ensures)
 
 returns-7 : tie.Need-returns-7
-unfolding lexedBy classOf
-returns-7 c = rw (← same (c .before .before .before), c .before .enum-told7 .given .1) (c .word-rule .ensures)
+unfolding lexedBy
+returns-7 c = rw (← same (c .before .before .before), c .before .enum-told7 .given .1, ← keylike-class) (c .word-rule .ensures)
 
 returns-8 : tie.Need-returns-8
-unfolding lexedBy classOf
+unfolding lexedBy
 returns-8 c = rw (← same (c .before .before .before), c .before .kind .given .1, folded-place)
 
 returns-9 : tie.Need-returns-9
-unfolding lexedBy classOf
+unfolding lexedBy
 returns-9 c =
     rw (
       ← same (c .before .before .before),

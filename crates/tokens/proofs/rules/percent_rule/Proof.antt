@@ -1,7 +1,7 @@
 use mathlib.Core.Path.{sym, _∙_}
 use Rattle.chars.proofs.ViewLaws.{folded-end, folded-ill, folded-char}
 use Rattle.tokens.specs.Tokens.{percentRule}
-use Rattle.runs.specs.inner.Runs.{classOf}
+use Rattle.runs.proofs.RunLaws.{keylike-class}
 use borrow.Author.Needs.{needs}
 use Rattle.tokens.proofs.rules.percent_rule.Statement.{statement}
 use Rattle.tokens.proofs.rules.percent_rule.Tie as tie
@@ -28,8 +28,8 @@ as-token-requires : tie.Need-as-token-requires
 as-token-requires c κs = search needs
 
 returns : tie.Need-returns
-unfolding percentRule classOf
-returns c = rw (folded-char _ _ _ _ (sym (c .before .before .before .before .before .before .before .folded-at .ensures) ∙ c .before .before .before .before .before .c .given .1), ← c .before .before .before .is-keylike-start .ensures, c .before .before .if1 .taken, ← c .before .run-on .ensures) (c .as-token .ensures)
+unfolding percentRule
+returns c = rw (folded-char _ _ _ _ (sym (c .before .before .before .before .before .before .before .folded-at .ensures) ∙ c .before .before .before .before .before .c .given .1), ← c .before .before .before .is-keylike-start .ensures, c .before .before .if1 .taken, ← keylike-class, ← c .before .run-on .ensures) (c .as-token .ensures)
 
 returns-2 : tie.Need-returns-2
 unfolding percentRule
