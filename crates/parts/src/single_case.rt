@@ -54,18 +54,12 @@ fn early(j: u8, n: u8) -> u8
     if j < n { 1 } else { 0 }
 }
 
-fn least(x: u8, y: u8) -> u8
-    ensures { λ r. ⌜ r ≡ min x y ⌝ }
-{
-    if x < y { x } else { y }
-}
-
 // 1 where the byte b, the j-th of n, may not stand behind p; else what was seen before.
 fn seen(low: u8, p: u8, b: u8, j: u8, n: u8, any: u8) -> u8
     requires { ⌜ low ≤ 0x61 ⌝ }
     ensures { λ r. ⌜ r ≡ (if ltb j n && not (follows low p b) then 1 else any) ⌝ }
 {
-    if least(early(j, n), odd(low, p, b)) == 0 {
+    if terms::least(early(j, n), odd(low, p, b)) == 0 {
         any
     } else {
         1

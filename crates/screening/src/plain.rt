@@ -2,7 +2,7 @@
 use answers::Place;
 ghost use mathlib.Core.Path.{_≡_};
 ghost use mathlib.Core.Bool.{not};
-ghost use Prim.Native.Nat.{_+_, _-_, _≤_, min};
+ghost use Prim.Native.Nat.{_+_, _-_, _≤_};
 ghost use lib.ListN.{length};
 ghost use Rattle.terms.specs.Terms.{if_then_else_, first};
 ghost use Rattle.screening.specs.inner.Plain.{isPlain, halts, haltsAt, plainEnd};
@@ -46,12 +46,6 @@ fn stop_at(b: u8, x: u8, y: u8, z: u8, i: u8) -> u8
     if stops(b, x, y, z) { i } else { 64 }
 }
 
-fn least(m: u8, n: u8) -> u8
-    ensures { λ r. ⌜ r ≡ min m n ⌝ }
-{
-    if m < n { m } else { n }
-}
-
 // The first of the 64 places from k on whose byte stops, or the one behind them.
 // The loop goes through all of them, so that it has no branch and takes many bytes at a time.
 fn stop_in(text: &[u8], k: usize, x: u8, y: u8, z: u8) -> usize
@@ -60,7 +54,7 @@ fn stop_in(text: &[u8], k: usize, x: u8, y: u8, z: u8) -> usize
 {
     let mut n: u8 = 64;
     for i in 0..64 {
-        n = least(n, stop_at(text[k + i], x, y, z, i as u8));
+        n = terms::least(n, stop_at(text[k + i], x, y, z, i as u8));
     }
     k + n as usize
 }
