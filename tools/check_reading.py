@@ -1,6 +1,6 @@
 #!/usr/bin/env python3
 """docs/READING.md names every public function of the libraries and every definition file, its links lead somewhere, and the definitions
-stay short. Prints what is missing; exit 1 then.
+stay short, with a sentence above each. Prints what is missing; exit 1 then.
 
 A public function is one that another crate can call: `pub fn` in lib.rt or in an `impl` there, or one that lib.rt hands on with `pub use`.
 """
@@ -29,6 +29,17 @@ def lines_of(spec):
     return sum(bool(line) and not re.match(r"--|use |infix|((unfoldable|abbrev) )?pub \S+ :", line) for line in plain)
 
 
+def unsaid(spec):
+    """The definitions of a file that have no sentence above them."""
+    above = ""
+    for line in spec.read_text(encoding="utf-8").splitlines():
+        named = re.match(r"(?:unfoldable pub|abbrev pub|pub record|pub data) (\S+)", line)
+        if named and not above.startswith("--"):
+            yield named[1]
+        if not line.startswith("infix"):
+            above = line
+
+
 def main():
     page = (TOP / "docs/READING.md").read_text(encoding="utf-8")
     missing = []
@@ -44,6 +55,8 @@ def main():
             lines += lines_of(spec) if spec.name not in WRITTEN else 0
             if f"../crates/{crate.name}/specs/{spec.name}" not in page:
                 missing.append(f"definition file {spec.relative_to(TOP)}")
+        for spec in sorted(crate.glob("specs/**/*.antt")):
+            missing.extend(f"a sentence above {name} in {spec.relative_to(TOP)}" for name in unsaid(spec))
     if lines >= MOST_LINES:
         missing.append(f"shorter definitions: they have {lines} lines, and should have under {MOST_LINES}")
     for page_path in (TOP / "docs").glob("*.md"):

@@ -8,6 +8,7 @@ use crate::tables::START_LASTS;
 ghost use mathlib.Core.Path.{_≡_};
 ghost use Rattle.classes.specs.Classes.{xidStart, xidContinue, keylikeStart, keylikeContinue, shortStart, shortContinue};
 
+// XID_Start up to U+02C1.
 fn short_start(c: u32) -> bool
     ensures { λ r. ⌜ r ≡ shortStart c ⌝ }
 {
@@ -19,6 +20,7 @@ fn short_start(c: u32) -> bool
     }
 }
 
+// XID_Continue up to U+02C1.
 pub(crate) fn short_continue(c: u32) -> bool
     ensures { λ r. ⌜ r ≡ shortContinue c ⌝ }
 {
@@ -34,18 +36,21 @@ pub(crate) fn short_continue(c: u32) -> bool
     short_start(c)
 }
 
+// XID_Start by its table, which is stored here.
 fn searched_start(c: u32) -> bool
     ensures { λ r. ⌜ r ≡ xidStart c ⌝ }
 {
     in_ranges(&START_FIRSTS, &START_LASTS, c)
 }
 
+// XID_Continue by its table, which is stored here.
 fn searched_continue(c: u32) -> bool
     ensures { λ r. ⌜ r ≡ xidContinue c ⌝ }
 {
     in_ranges(&CONTINUE_FIRSTS, &CONTINUE_LASTS, c)
 }
 
+// Unicode's property XID_Start.
 pub fn xid_start(c: u32) -> bool
     ensures { λ r. ⌜ r ≡ xidStart c ⌝ }
 {
@@ -55,6 +60,7 @@ pub fn xid_start(c: u32) -> bool
     searched_start(c)
 }
 
+// Unicode's property XID_Continue.
 pub fn xid_continue(c: u32) -> bool
     ensures { λ r. ⌜ r ≡ xidContinue c ⌝ }
 {

@@ -12,6 +12,7 @@ unfoldable pub asCursor : Opened → Opening
 asCursor (Opened.At p) = Opening.Cursor (record { at = p })
 asCursor (Opened.Refused f) = Opening.Refused f
 
+-- Opening a text.
 unfoldable pub openedCursor : List ℕ → ℕ → Opening
 openedCursor s o = asCursor (opened s o)
 

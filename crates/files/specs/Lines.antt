@@ -5,6 +5,7 @@ use mathlib.Core.List.{List}
 use lib.Dec.{eqb}
 use Rattle.terms.specs.Terms.{count}
 
+-- A newline: LF.
 unfoldable pub isNewline : ℕ → Bool
 isNewline b = eqb b 10
 

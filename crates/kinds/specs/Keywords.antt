@@ -15,6 +15,7 @@ infix 90 _names_
 abbrev pub _names_ : String → Token → Key
 text names kind = ascii text keys kind
 
+-- The table.
 unfoldable pub keywords : List Key
 keywords =
     ("use" names Token.Use) ∷ ("type" names Token.«Type») ∷ ("func" names Token.Func) ∷ ("u8" names Token.U8)

@@ -22,6 +22,7 @@ unfoldable pub unblanked : List Row → List Row
 unblanked [] = []
 unblanked (r ∷ rs) = (if isBlank (r .kind) then [] else r ∷ []) ++ unblanked rs
 
+-- The same of a text's rows; a refusal stays.
 unfoldable pub unblankedRows : Rows → Rows
 unblankedRows (rows rs) = rows (unblanked rs)
 unblankedRows (refused f) = refused f

@@ -17,10 +17,11 @@ pub record Row : Type 0 where
   pub kind : Token
   pub span : Span
 
--- The words of a row, and how many they are: kind, start, end.
+-- How many words a row has.
 abbrev pub rowWords : ℕ
 rowWords = 3
 
+-- The words of a row: kind, start, end.
 unfoldable pub wordsOf : Row → List ℕ
 wordsOf r = kindOf (r .kind) ∷ r .span .start .0 ∷ r .span .end .0 ∷ []
 
@@ -59,5 +60,6 @@ unfoldable pub rowsBy : Listing → List ℕ → ℕ → Opened → Rows
 rowsBy l s o (Opened.At p) = rowsOf l (tokensFrom s o p)
 rowsBy l s o (Opened.Refused f) = refused f
 
+-- The rows of a text.
 unfoldable pub textRows : Listing → List ℕ → ℕ → Rows
 textRows l s o = rowsBy l s o (opened s o)

@@ -20,10 +20,11 @@ use Rattle.parts.specs.declared.Part.{Part}
 use Rattle.parts.specs.Parts.{partsFrom}
 use Rattle.names.specs.declared.Named.{Named}
 
--- The places of a span's start and end in a text that stands at this offset.
+-- The place of a span's start in a text that stands at this offset.
 abbrev pub startIn : ℕ → Span → Place
 startIn o span = place (span .start .0 - o)
 
+-- The place of its end.
 abbrev pub endIn : ℕ → Span → Place
 endIn o span = place (span .end .0 - o)
 
@@ -61,9 +62,11 @@ unfoldable pub namedBy : Verdict → Place → Place → Named
 namedBy Accepted first last = Named.Id first last
 namedBy (Refused f) first last = Named.Refused f
 
+-- The plain identifier that a span names.
 unfoldable pub plainId : List ℕ → ℕ → Span → Named
 plainId s o span = namedBy (plainVerdict s o span) (startIn o span) (endIn o span)
 
+-- The explicit one: what stands behind its `%`.
 unfoldable pub explicitId : List ℕ → ℕ → Span → Named
 explicitId s o span = namedBy (explicitVerdict s o span) (onBy 1 (startIn o span)) (endIn o span)
 

@@ -13,11 +13,12 @@ use Rattle.parts.specs.declared.Letter.{Letter}
 use Rattle.parts.specs.declared.Part.{Part}
 use Rattle.parts.specs.declared.Step.{Step}
 
--- What a character is to an identifier.
+-- The characters that an identifier may have.
 unfoldable pub letters : List (Row Letter)
 letters =
     0x2D to 0x2D is Letter.Dash ∷ 0x30 to 0x39 is Letter.Digit ∷ 0x41 to 0x5A is Letter.Upper ∷ 0x61 to 0x7A is Letter.Lower ∷ []
 
+-- What a character is to an identifier.
 unfoldable pub letterOf : ℕ → Letter
 letterOf c = said letters Letter.Other c
 

@@ -41,6 +41,7 @@ blockTurn (Block.Slash depth) c = if eqb c 42 then Block.Other (depth + 1) else 
 blockTurn (Block.Star depth) c = if eqb c 47 then (if eqb depth 1 then Block.Closed else Block.Other (depth - 1)) else seen depth c
 blockTurn Block.Closed c = Block.Closed
 
+-- A comment goes on by its next state, or ends behind the character that closes it.
 unfoldable pub blockOn : Block → Chars → (Block → Ran) → Ran
 blockOn (Block.Other depth) v next = next (Block.Other depth)
 blockOn (Block.Slash depth) v next = next (Block.Slash depth)

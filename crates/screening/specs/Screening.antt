@@ -12,7 +12,7 @@ use Rattle.chars.specs.View.{Chars, end, ill, char, charsFrom, wellFormed}
 use Rattle.screening.specs.declared.Offence.{Offence}
 use Rattle.screening.specs.declared.Offence.the-variants.{None, Control, Deprecated, Forbidden}
 
--- What is wrong with a character.
+-- The characters with which something is wrong, behind three with which nothing is.
 unfoldable pub offences : List (Row Offence)
 offences =
     9 to 10 is None ∷ 13 to 13 is None ∷ 0x00 to 0x1F is Control ∷ 0x7F to 0x9F is Control
@@ -20,6 +20,7 @@ offences =
     ∷ 0x17A3 to 0x17A4 is Deprecated ∷ 0x17B4 to 0x17B5 is Deprecated
     ∷ 0x202A to 0x202E is Forbidden ∷ 0x2066 to 0x2069 is Forbidden ∷ []
 
+-- What is wrong with a character.
 unfoldable pub offenceOf : ℕ → Offence
 offenceOf c = said offences None c
 

@@ -21,10 +21,11 @@ unfoldable pub table : (ℕ → ℕ) → ℕ → ℕ → List ℕ
 table f i zero = []
 table f i (suc n) = f i ∷ table f (suc i) n
 
--- The items of the first m edges, and their targets.
+-- The items of the first m edges.
 abbrev pub ownersOf : List ℕ → ℕ → List ℕ
 ownersOf ws m = table (ownerOf ws) 0 m
 
+-- Their targets.
 abbrev pub targetsOf : List ℕ → List ℕ → ℕ → List ℕ
 targetsOf ws bs m = table (targetOf ws bs) 0 m
 

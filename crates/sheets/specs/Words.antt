@@ -3,24 +3,27 @@ use Prim.Native.Nat.{ℕ, _+_, _*_}
 use mathlib.Core.List.{List}
 use lib.ListN.{getD, take, drop}
 
--- The header's counts, N and E.
+-- How many items, N.
 abbrev pub items : List ℕ → ℕ
 items ws = getD ws 0 0
 
+-- How many edges, E.
 abbrev pub listed : List ℕ → ℕ
 listed ws = getD ws 1 0
 
--- The first words of a row: where its name starts in the names, and the name's length.
+-- Where a row's name starts in the names.
 abbrev pub nameAt : List ℕ → ℕ → ℕ
 nameAt ws r = getD ws (5 + 4 * r) 0
 
+-- The name's length.
 abbrev pub nameLength : List ℕ → ℕ → ℕ
 nameLength ws r = getD ws (5 + 4 * r + 1) 0
 
--- The other words of an item's row: its first edge, and how many it has.
+-- An item's first edge.
 abbrev pub firstEdge : List ℕ → ℕ → ℕ
 firstEdge ws i = getD ws (5 + 4 * i + 2) 0
 
+-- How many edges an item has.
 abbrev pub edgeCount : List ℕ → ℕ → ℕ
 edgeCount ws i = getD ws (5 + 4 * i + 3) 0
 

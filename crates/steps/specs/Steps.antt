@@ -26,6 +26,7 @@ use Rattle.steps.specs.Stream.{Tokens, done, stop, token, tokensFrom}
 unfoldable pub marked : List ℕ → Bool
 marked s = eqb (byteAt s (place 0)) 0xEF && (eqb (byteAt s (place 1)) 0xBB && eqb (byteAt s (place 2)) 0xBF)
 
+-- What a verdict on the text opens.
 unfoldable pub openedBy : Verdict → List ℕ → Opened
 openedBy Accepted s = Opened.At (if marked s then place 3 else place 0)
 openedBy (Refused f) s = Opened.Refused f
@@ -51,6 +52,7 @@ unfoldable pub movedBy : Verdict → Place → Moved → Moved
 movedBy Accepted p m = m
 movedBy (Refused f) p m = moved (Step.Refused f) p
 
+-- The raw token as a step: the cursor goes behind it, and stays at the end and on a refusal.
 unfoldable pub rawStep : Place → Raw → Moved
 rawStep p (Raw.Token kind span n) = moved (Step.Token kind span) n
 rawStep p Raw.End = moved Step.End p

@@ -24,6 +24,7 @@ pub data Spelt : Type 0 where
   spelt : List ℕ → Spelt
   none : Spelt
 
+-- Bytes are a value where they are well-formed.
 unfoldable pub wellSpelt : Judged → List ℕ → Spelt
 wellSpelt whole g = spelt g
 wellSpelt (illAt k) g = none
@@ -46,10 +47,11 @@ storing none b = (Refused BadSpan, b)
 storing (spelt g) b =
     if leb (length g) (length b) then (Value (length g), g ++ drop (length g) b) else (Refused (NoRoom (length g)), b)
 
--- Decoding: 1, 2, then 22, then 25.
+-- 1 and 2 go before 22 and 25, and leave the buffer as it was.
 unfoldable pub decodedBy : Verdict → Spelt → List ℕ → Decoded × List ℕ
 decodedBy (Refused′ f) g b = (Refused f, b)
 decodedBy Accepted g b = storing g b
 
+-- The value of a span, and the buffer.
 unfoldable pub decoded : List ℕ → ℕ → Span → List ℕ → Decoded × List ℕ
 decoded s o span b = decodedBy (textVerdict o (length s)) (spelling s o span) b

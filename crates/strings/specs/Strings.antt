@@ -22,11 +22,12 @@ use Rattle.strings.specs.declared.Turn.the-variants.{On, Close, Fail}
 use Rattle.strings.specs.declared.Literal.{Literal}
 use Rattle.strings.specs.declared.Literal.the-variants.{Closed, Refused}
 
--- The character that one behind a backslash stands for, 0 for none: `\"` `\'` `\\` `\t` `\n` `\r`.
+-- What is written behind a backslash, and the character that it stands for: `\"` `\'` `\\` `\t` `\n` `\r`.
 unfoldable pub simples : List (Row ℕ)
 simples =
     0x22 to 0x22 is 0x22 ∷ 0x27 to 0x27 is 0x27 ∷ 0x5C to 0x5C is 0x5C ∷ 0x74 to 0x74 is 9 ∷ 0x6E to 0x6E is 10 ∷ 0x72 to 0x72 is 13 ∷ []
 
+-- The character that one behind a backslash stands for; 0 for none.
 unfoldable pub simpleOf : ℕ → ℕ
 simpleOf c = said simples 0 c
 
@@ -87,6 +88,7 @@ pub data Gathered : Type 0 where
   bytes : List ℕ → Chars → Gathered
   refused : Refusal → Gathered
 
+-- A turn goes on with its bytes added, ends the string, or refuses it.
 unfoldable pub gatherOn : Turn → List ℕ → Chars → (Inside → List ℕ → Gathered) → Gathered
 gatherOn (On i more) g v next = next i (g ++ added more)
 gatherOn Close g v next = bytes g v
@@ -103,11 +105,13 @@ pub data Judged : Type 0 where
   whole : Judged
   illAt : ℕ → Judged
 
+-- The first ill-formed sequence of a view.
 unfoldable pub firstIll : Chars → Judged
 firstIll (end p) = whole
 firstIll (ill s) = illAt (s .at .0)
 firstIll (char p c v) = firstIll v
 
+-- Some bytes, read as a text of their own.
 unfoldable pub judged : List ℕ → Judged
 judged g = firstIll (charsFrom g (place 0))
 
@@ -116,6 +120,7 @@ unfoldable pub closedBy : Position → ℕ → Judged → Place → Literal
 closedBy q n whole m = Closed m n
 closedBy q n (illAt k) m = Refused (InvalidUtf8 q k)
 
+-- The rule's answer by what was gathered.
 unfoldable pub literalOf : Position → Gathered → Literal
 literalOf q (bytes g v) = closedBy q (length g) (judged g) (placeOf v)
 literalOf q (refused f) = Refused f

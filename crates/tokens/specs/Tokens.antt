@@ -95,6 +95,7 @@ unfoldable pub spanned : ℕ → Place → Lexed → Raw
 spanned o p (As kind n) = Found kind (record { start = inMap o p; end = inMap o n }) n
 spanned o p (Not f) = Refused f
 
+-- The raw token that a view starts with.
 unfoldable pub rawOf : List ℕ → ℕ → Chars → Raw
 rawOf s o (end p) = End
 rawOf s o (ill i) = Refused (IllFormed i)

@@ -28,6 +28,7 @@ eatStep wanted p Step.End n = moved Step.No p
 eatStep wanted p Step.No n = moved Step.No p
 eatStep wanted p (Step.Refused f) n = moved (Step.Refused f) p
 
+-- Eat: 1, 2, 23, 22, then the next token.
 unfoldable pub eatAt : List ℕ → ℕ → ℕ → Place → Moved
 eatAt s o wanted p =
     movedBy (firstOf (stepVerdict s o p) (kindVerdict wanted)) p
@@ -42,6 +43,7 @@ expectStep wanted e p Step.End n = moved (Step.Refused (Refusal.Wanted e wanted 
 expectStep wanted e p Step.No n = moved Step.No p
 expectStep wanted e p (Step.Refused f) n = moved (Step.Refused f) p
 
+-- Expect: the same checks, then the next token.
 unfoldable pub expectAt : List ℕ → ℕ → ℕ → Place → Moved
 expectAt s o wanted p =
     movedBy (firstOf (stepVerdict s o p) (kindVerdict wanted)) p

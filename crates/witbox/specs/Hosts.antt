@@ -29,13 +29,15 @@ unfoldable pub openNumbers : Opened → OpenAnswer
 openNumbers (Opened.At p) = record { number = 0; position = 0; detail = 0; cursor = p .0 }
 openNumbers (Opened.Refused f) = record { number = told f .number; position = told f .position; detail = told f .detail; cursor = 0 }
 
--- A step: the token's kind and span. The end of the text, and no from eat, are kind 67.
+-- A step without a token, at the end of the text or where eat says no: kind 67.
 abbrev pub noToken : StepAnswer
 noToken = record { number = 0; position = 0; detail = 0; kind = 67; start = 0; end = 0 }
 
+-- A step that is refused.
 unfoldable pub refusedStep : Refusal → StepAnswer
 refusedStep f = record { number = told f .number; position = told f .position; detail = told f .detail; kind = 0; start = 0; end = 0 }
 
+-- A step: the token's kind and span.
 unfoldable pub stepOf : Step → StepAnswer
 stepOf (Step.Token kind span) = record { number = 0; position = 0; detail = 0; kind = kindOf kind; start = span .start .0; end = span .end .0 }
 stepOf Step.End = noToken
@@ -46,25 +48,29 @@ stepOf (Step.Refused f) = refusedStep f
 unfoldable pub stepNumbers : Moved → StepAnswer × ℕ
 stepNumbers m = (stepOf (m .step), m .at .0)
 
--- A listing or a string: how many rows or bytes.
+-- How many rows or bytes.
 abbrev pub counted : ℕ → CountAnswer
 counted n = record { number = 0; position = 0; detail = 0; count = n }
 
+-- A listing or a string that is refused.
 unfoldable pub refusedCount : Refusal → CountAnswer
 refusedCount f = record { number = told f .number; position = told f .position; detail = told f .detail; count = 0 }
 
+-- A listing: how many rows.
 unfoldable pub countOf : Listed → CountAnswer
 countOf (Listed.Count n) = counted n
 countOf (Listed.Refused f) = refusedCount f
 
+-- A string: how many bytes.
 unfoldable pub valueOf : Decoded → CountAnswer
 valueOf (Decoded.Value n) = counted n
 valueOf (Decoded.Refused f) = refusedCount f
 
--- The same, with the table, and with the buffer.
+-- A listing, with the table.
 unfoldable pub countNumbers : Listed × List ℕ → CountAnswer × List ℕ
 countNumbers a = (countOf (a .0), a .1)
 
+-- A string, with the buffer.
 unfoldable pub valueNumbers : Decoded × List ℕ → CountAnswer × List ℕ
 valueNumbers a = (valueOf (a .0), a .1)
 
@@ -73,10 +79,11 @@ unfoldable pub nameNumbers : Named → NameAnswer
 nameNumbers (Named.Id first last) = record { number = 0; position = 0; detail = 0; place = first .0; length = last .0 - first .0 }
 nameNumbers (Named.Refused f) = record { number = told f .number; position = told f .position; detail = told f .detail; place = 0; length = 0 }
 
--- A sort: the settled count; and the order.
+-- A sort: its verdict and the settled count.
 unfoldable pub sortOf : Sorted → SortAnswer
 sortOf s = record { number = toldOf (s .verdict) .number; position = toldOf (s .verdict) .position; detail = toldOf (s .verdict) .detail; settled = s .settled }
 
+-- The same, with the order.
 unfoldable pub sortNumbers : Sorted × List ℕ → SortAnswer × List ℕ
 sortNumbers a = (sortOf (a .0), a .1)
 

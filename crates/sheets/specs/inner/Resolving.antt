@@ -27,6 +27,7 @@ unfoldable pub resolvedBy : Verdict → ℕ → ℕ
 resolvedBy Accepted u = u
 resolvedBy (Refused f) u = 0
 
+-- The same of a sheet and its two tables.
 abbrev pub resolved : List ℕ → List ℕ → List ℕ → List ℕ → ℕ
 resolved ws bs os ts = resolvedBy (readyVerdict ws bs os ts) (firstUnlisted ws bs)
 

@@ -15,6 +15,7 @@ unfoldable pub signedFrom : ℕ → ℕ → ℕ → List ℕ → ℕ
 signedFrom factor step sum [] = sum % 256
 signedFrom factor step sum (b ∷ bs) = signedFrom ((factor + step) % 65536) ((step + 58) % 65536) (sum + b * factor) bs
 
+-- A name's signature, one byte.
 abbrev pub signatureOf : List ℕ → ℕ
 signatureOf name = signedFrom 37 101 0 name
 

@@ -37,6 +37,7 @@ expectedOf o p End = Fails (UnexpectedEof (inMap o p))
 expectedOf o p (Ill i) = Fails (IllFormed i)
 expectedOf o p (Char c n) = Stands c n
 
+-- The same of a place of the text.
 unfoldable pub expectedAt : List ℕ → ℕ → Place → Expected
 expectedAt s o p = expectedOf o p (foldedAt s p)
 

@@ -2,6 +2,7 @@
 use Prim.Native.Nat.{_≤_}
 use Rattle.names.specs.declared.Named.{Named}
 
+-- Its end does not come before its start.
 abbrev pub Forward : Named → Type 0
 Forward (Named.Id first last) = first .0 ≤ last .0
 Forward (Named.Refused f) = Unit {0}
