@@ -1,10 +1,9 @@
 #!/usr/bin/env python3
 """The numbers of include/witbox.h are the definitions': every refusal, every kind and every cap. Prints what differs; exit 1 then."""
-import pathlib
 import re
 import sys
 
-TOP = pathlib.Path(__file__).resolve().parent.parent
+from repository import TOP
 
 
 def text(path):

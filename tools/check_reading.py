@@ -1,26 +1,13 @@
 #!/usr/bin/env python3
 """docs/READING.md names every public function of the libraries and every definition file, its links lead somewhere, and the definitions
-stay short, with a sentence above each. Prints what is missing; exit 1 then.
-
-A public function is one that another crate can call: `pub fn` in lib.rt or in an `impl` there, or one that lib.rt hands on with `pub use`.
-"""
-import pathlib
+stay short, with a sentence above each. Prints what is missing; exit 1 then."""
 import re
 import sys
 
-TOP = pathlib.Path(__file__).resolve().parent.parent
-CRATES = TOP / "crates"
+from repository import CRATES, TOP, public
+
 MOST_LINES = 600 + 20  # of definitions that a reviewer reads: the base, and requests §3 and §6
 WRITTEN = ("XidStart.antt", "XidContinue.antt")  # by tools/unicode/ranges.py, which checks them: not counted
-
-
-def public(crate):
-    lib = (crate / "src/lib.rt").read_text(encoding="utf-8")
-    yield from re.findall(r"^pub (?:extern \"C\" )?fn (\w+)", lib, re.M)
-    for kind, body in re.findall(r"^impl (\w+) \{(.*?)^\}", lib, re.M | re.S):
-        yield from (f"{kind}::{name}" for name in re.findall(r"^    pub fn (\w+)", body, re.M))
-    handed = re.findall(r"^pub use \w+::([a-z]\w*);", lib, re.M)
-    yield from handed
 
 
 def lines_of(spec):
