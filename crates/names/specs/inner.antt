@@ -1,2 +1,3 @@
 -- What no host's contract needs.
 pub mod Within
+pub mod OneCase

@@ -1,4 +1,5 @@
 //! Identifiers: plain and explicit, as a part of the caller's own text. What their parts are is said by the room `parts`.
+mod single_case;
 mod spans;
 
 use answers::Place;

@@ -1,5 +1,6 @@
 //! The identifier that a span names: its checks in their order, and what is handed back.
 use crate::Named;
+use crate::single_case::one_case;
 use answers::Place;
 use answers::Refusal;
 use answers::Span;
@@ -82,6 +83,9 @@ pub fn validate_id(text: &[u8], offset: u32, span: Span) -> Named
     let end = span.end;
     let first = Place(start.0 - offset);
     let last = Place(end.0 - offset);
+    if one_case(text, first, last) {
+        return Named::Id(first, last);
+    }
     named_by(check_parts(text, start, first, last), first, last)
 }
 
@@ -102,6 +106,9 @@ pub fn validate_explicit_id(text: &[u8], offset: u32, span: Span) -> Named
     let end = span.end;
     let first = Place(start.0 - offset + 1);
     let last = Place(end.0 - offset);
+    if one_case(text, first, last) {
+        return Named::Id(first, last);
+    }
     named_by(check_parts(text, start, first, last), first, last)
 }
 

@@ -1,5 +1,4 @@
 -- The laws of the parts.
 pub mod PartLaws
-pub mod OneCaseLaws
 -- One answer.
 pub mod OneAnswer

@@ -126,7 +126,7 @@ fn staying(part: Part) -> AsciiSet
 }
 
 // The parts from a place on, up to the end, one by one; refusals stand at the span's start.
-pub(crate) fn walk_parts(text: &[u8], start: Position, from: Place, end: Place) -> Verdict
+pub fn check_parts(text: &[u8], start: Position, from: Place, end: Place) -> Verdict
     ensures { λ r. ⌜ r ≡ partsFrom start end Part.First (charsFrom (now (text .entry)) from) ⌝ }
 {
     let mut at = from;

@@ -64,15 +64,22 @@ add-t16 c = omega (arith, lies (c .before .before .before .before .before .befor
 sub-t15-2 : tie.Need-sub-t15-2
 sub-t15-2 c = omega (arith, lies (c .before .before .before .before .before .before .before))
 
+one-case-requires : tie.Need-one-case-requires
+one-case-requires c κs = (omega (arith, lies (c .before .before .before .before .before .before .before)), omega (arith, lies (c .before .before .before .before .before .before .before), short (c .before .before .before .before .before .before .before .before .before .before)))
+
+returns-4 : tie.Need-returns-4
+unfolding explicitId explicitVerdict firstOf namedBy
+returns-4 c = rw (← c .before .before .before .before .before .before .before .before .before .before .before .before .before .before .check-text .ensures, c .before .before .before .before .before .before .before .before .before .before .before .before .enum-told .given .1, ← c .before .before .before .before .before .before .before .before .before .before .before .check-span .ensures, c .before .before .before .before .before .before .before .before .before .enum-told2 .given .1, ← c .before .before .before .before .before .before .before .before .check-percent .ensures, c .before .before .before .before .before .before .enum-told3 .given .1, c .before .one-case .ensures (c .if1 .taken) _)
+
 check-parts-requires : tie.Need-check-parts-requires
 check-parts-requires c κs = search needs
 
 named-by-requires : tie.Need-named-by-requires
 named-by-requires c κs = search needs
 
-returns-4 : tie.Need-returns-4
+returns-5 : tie.Need-returns-5
 unfolding explicitId explicitVerdict firstOf
-returns-4 c = rw (← c .before .before .before .before .before .before .before .before .before .before .before .before .before .before .check-text .ensures, c .before .before .before .before .before .before .before .before .before .before .before .before .enum-told .given .1, ← c .before .before .before .before .before .before .before .before .before .before .before .check-span .ensures, c .before .before .before .before .before .before .before .before .before .enum-told2 .given .1, ← c .before .before .before .before .before .before .before .before .check-percent .ensures, c .before .before .before .before .before .before .enum-told3 .given .1, ← c .before .check-parts .ensures) (c .named-by .ensures)
+returns-5 c = rw (← c .before .before .before .before .before .before .before .before .before .before .before .before .before .before .before .before .check-text .ensures, c .before .before .before .before .before .before .before .before .before .before .before .before .before .before .enum-told .given .1, ← c .before .before .before .before .before .before .before .before .before .before .before .before .before .check-span .ensures, c .before .before .before .before .before .before .before .before .before .before .before .enum-told2 .given .1, ← c .before .before .before .before .before .before .before .before .before .before .check-percent .ensures, c .before .before .before .before .before .before .before .before .enum-told3 .given .1, ← c .before .check-parts .ensures) (c .named-by .ensures)
 
 pub validate-explicit-id-spec : {M : Type 1} → statement M
 validate-explicit-id-spec =
@@ -93,6 +100,8 @@ validate-explicit-id-spec =
     sub-t15
     add-t16
     sub-t15-2
+    one-case-requires
+    returns-4
     check-parts-requires
     named-by-requires
-    returns-4)
+    returns-5)

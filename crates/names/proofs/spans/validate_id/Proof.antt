@@ -1,13 +1,18 @@
 use mathlib.Core.Path.{sym, _∙_}
 use native.Mathlib.Omega.{arith}
 use Rattle.answers.specs.Caps.{firstOf}
+use Rattle.answers.proofs.CapsLaws.{Fits, text-in}
 use Rattle.names.specs.Names.{plainVerdict, namedBy, plainId}
 use Rattle.names.proofs.NameLaws.{Lies, span-lies}
+use lib.ListN.{length}
 use borrow.Author.Needs.{needs}
 use Rattle.names.proofs.spans.validate_id.Statement.{statement}
 use Rattle.names.proofs.spans.validate_id.Tie as tie
 
--- the span lies in the text
+-- the text is short, and the span lies in it
+short : (c : tie.After-enum-told) → Fits (c .before .before .before .before .args .offset) (length (c .before .before .before .before .args .text .now))
+short c = text-in _ _ (sym (c .before .before .check-text .ensures) ∙ c .enum-told .given .1)
+
 lies : (c : tie.After-enum-told2) → Lies (c .before .before .before .before .before .before .before .args .text .now) (c .before .before .before .before .before .before .before .args .offset) (c .before .before .before .before .before .before .before .args .span)
 lies c = span-lies _ _ _ (sym (c .before .before .check-span .ensures) ∙ c .enum-told2 .given .1)
 
@@ -43,15 +48,22 @@ sub-t13 c = omega (arith, lies (c .before .before .before))
 sub-t13-2 : tie.Need-sub-t13-2
 sub-t13-2 c = omega (arith, lies (c .before .before .before .before))
 
+one-case-requires : tie.Need-one-case-requires
+one-case-requires c κs = (omega (arith, lies (c .before .before .before .before)), omega (arith, lies (c .before .before .before .before), short (c .before .before .before .before .before .before .before)))
+
+returns-3 : tie.Need-returns-3
+unfolding plainId plainVerdict firstOf namedBy
+returns-3 c = rw (← c .before .before .before .before .before .before .before .before .before .before .before .check-text .ensures, c .before .before .before .before .before .before .before .before .before .enum-told .given .1, ← c .before .before .before .before .before .before .before .before .check-span .ensures, c .before .before .before .before .before .before .enum-told2 .given .1, c .before .one-case .ensures (c .if1 .taken) _)
+
 check-parts-requires : tie.Need-check-parts-requires
 check-parts-requires c κs = search needs
 
 named-by-requires : tie.Need-named-by-requires
 named-by-requires c κs = search needs
 
-returns-3 : tie.Need-returns-3
+returns-4 : tie.Need-returns-4
 unfolding plainId plainVerdict firstOf
-returns-3 c = rw (← c .before .before .before .before .before .before .before .before .before .before .before .check-text .ensures, c .before .before .before .before .before .before .before .before .before .enum-told .given .1, ← c .before .before .before .before .before .before .before .before .check-span .ensures, c .before .before .before .before .before .before .enum-told2 .given .1, ← c .before .check-parts .ensures) (c .named-by .ensures)
+returns-4 c = rw (← c .before .before .before .before .before .before .before .before .before .before .before .before .before .check-text .ensures, c .before .before .before .before .before .before .before .before .before .before .before .enum-told .given .1, ← c .before .before .before .before .before .before .before .before .before .before .check-span .ensures, c .before .before .before .before .before .before .before .before .enum-told2 .given .1, ← c .before .check-parts .ensures) (c .named-by .ensures)
 
 pub validate-id-spec : {M : Type 1} → statement M
 validate-id-spec =
@@ -67,6 +79,8 @@ validate-id-spec =
     enum-told-2
     sub-t13
     sub-t13-2
+    one-case-requires
+    returns-3
     check-parts-requires
     named-by-requires
-    returns-3)
+    returns-4)

@@ -1,10 +1,10 @@
 use mathlib.Core.Bool.{not}
 use lib.Dec.{ltb}
-use Rattle.parts.specs.inner.OneCase.{follows}
-use Rattle.parts.proofs.OneCaseLaws.{least-none, least-some}
+use Rattle.names.specs.inner.OneCase.{follows}
+use Rattle.names.proofs.OneCaseLaws.{least-none, least-some}
 use borrow.Author.Needs.{needs}
-use Rattle.parts.proofs.single_case.seen.Statement.{statement}
-use Rattle.parts.proofs.single_case.seen.Tie as tie
+use Rattle.names.proofs.single_case.seen.Statement.{statement}
+use Rattle.names.proofs.single_case.seen.Tie as tie
 
 early-requires : tie.Need-early-requires
 early-requires c κs = search needs

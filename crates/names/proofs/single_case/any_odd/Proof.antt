@@ -1,10 +1,10 @@
 use Prim.Native.Nat.{_-_, _≤_}
 use mathlib.Core.Path.{_≡_}
 use native.Mathlib.Omega.{arith}
-use Rattle.parts.proofs.OneCaseLaws.{Until, until-none, until-more, until-all}
+use Rattle.names.proofs.OneCaseLaws.{Until, until-none, until-more, until-all}
 use borrow.Author.Needs.{needs}
-use Rattle.parts.proofs.single_case.any_odd.Statement.{statement}
-use Rattle.parts.proofs.single_case.any_odd.Tie as tie
+use Rattle.names.proofs.single_case.any_odd.Statement.{statement}
+use Rattle.names.proofs.single_case.any_odd.Tie as tie
 
 abbrev Inv-loop : tie.InvT-loop
 Inv-loop text at n low any₀ i₀ any i = (i ≤ 16) × (any ≡ 0 → Until text low at n i)

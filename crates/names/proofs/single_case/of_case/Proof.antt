@@ -1,8 +1,8 @@
 use native.Mathlib.Omega.{arith}
-use Rattle.parts.proofs.OneCaseLaws.{wrapped}
+use Rattle.names.proofs.OneCaseLaws.{wrapped}
 use borrow.Author.Needs.{needs}
-use Rattle.parts.proofs.single_case.of_case.Statement.{statement}
-use Rattle.parts.proofs.single_case.of_case.Tie as tie
+use Rattle.names.proofs.single_case.of_case.Statement.{statement}
+use Rattle.names.proofs.single_case.of_case.Tie as tie
 
 wrapping-sub-u8-requires : tie.Need-wrapping-sub-u8-requires
 wrapping-sub-u8-requires c κs = search needs

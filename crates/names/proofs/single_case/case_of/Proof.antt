@@ -1,7 +1,7 @@
-use Rattle.parts.specs.inner.OneCase.{caseOf}
+use Rattle.names.specs.inner.OneCase.{caseOf}
 use borrow.Author.Tests.{lt-ltb, le-ltb}
-use Rattle.parts.proofs.single_case.case_of.Statement.{statement}
-use Rattle.parts.proofs.single_case.case_of.Tie as tie
+use Rattle.names.proofs.single_case.case_of.Statement.{statement}
+use Rattle.names.proofs.single_case.case_of.Tie as tie
 
 returns : tie.Need-returns
 unfolding caseOf

@@ -2,10 +2,10 @@ use mathlib.Core.Bool.{false≢true}
 use native.Mathlib.Omega.{arith}
 use lib.ListN.{getD}
 use borrow.Author.Tests.{not-false}
-use Rattle.parts.proofs.OneCaseLaws.{case-small, one-case-accepted}
+use Rattle.names.proofs.OneCaseLaws.{case-small, one-case-accepted}
 use borrow.Author.Needs.{needs}
-use Rattle.parts.proofs.single_case.one_case.Statement.{statement}
-use Rattle.parts.proofs.single_case.one_case.Tie as tie
+use Rattle.names.proofs.single_case.one_case.Statement.{statement}
+use Rattle.names.proofs.single_case.one_case.Tie as tie
 
 cast-at : tie.Need-cast-at
 cast-at c = search needs

@@ -9,9 +9,9 @@ ghost use Rattle.terms.specs.Terms.{if_then_else_, bit, within};
 ghost use Rattle.answers.specs.declared.Verdict.the-variants.{Accepted};
 ghost use Rattle.answers.specs.declared.Position.{Position};
 ghost use Rattle.chars.specs.View.{charsFrom};
 ghost use Rattle.parts.specs.declared.Part.{Part};
 ghost use Rattle.parts.specs.Parts.{partsFrom};
-ghost use Rattle.parts.specs.inner.OneCase.{caseOf, follows, Follow};
+ghost use Rattle.names.specs.inner.OneCase.{caseOf, follows, Follow};
 
 // Where the letters of a first letter's case begin.
 fn case_of(b: u8) -> u8

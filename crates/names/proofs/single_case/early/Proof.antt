@@ -1,6 +1,6 @@
 use borrow.Author.Tests.{lt-ltb, le-ltb}
-use Rattle.parts.proofs.single_case.early.Statement.{statement}
-use Rattle.parts.proofs.single_case.early.Tie as tie
+use Rattle.names.proofs.single_case.early.Statement.{statement}
+use Rattle.names.proofs.single_case.early.Tie as tie
 
 returns : tie.Need-returns
 returns c = rw (lt-ltb _ _ (c .if1 .taken))

@@ -1,11 +1,11 @@
 use Prim.Native.Nat.{_+_, _-_, _≤_, _<_}
 use mathlib.Core.Bool.{false≢true}
 use native.Mathlib.Omega.{arith}
-use Rattle.parts.specs.inner.OneCase.{Follow}
-use Rattle.parts.proofs.OneCaseLaws.{follow-one, follow-on}
+use Rattle.names.specs.inner.OneCase.{Follow}
+use Rattle.names.proofs.OneCaseLaws.{follow-one, follow-on}
 use borrow.Author.Needs.{needs}
-use Rattle.parts.proofs.single_case.joined.Statement.{statement}
-use Rattle.parts.proofs.single_case.joined.Tie as tie
+use Rattle.names.proofs.single_case.joined.Statement.{statement}
+use Rattle.names.proofs.single_case.joined.Tie as tie
 
 abbrev Inv-loop : tie.InvT-loop
 Inv-loop text from end low at₀ at = (from ≤ at) × ((at < end) × Follow text low from (at + 1))

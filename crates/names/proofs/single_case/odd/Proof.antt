@@ -1,8 +1,8 @@
-use Rattle.parts.specs.inner.OneCase.{follows}
+use Rattle.names.specs.inner.OneCase.{follows}
 use borrow.Author.Tests.{eq-eqb, ne-eqb}
 use borrow.Author.Needs.{needs}
-use Rattle.parts.proofs.single_case.odd.Statement.{statement}
-use Rattle.parts.proofs.single_case.odd.Tie as tie
+use Rattle.names.proofs.single_case.odd.Statement.{statement}
+use Rattle.names.proofs.single_case.odd.Tie as tie
 
 of-case-requires : tie.Need-of-case-requires
 of-case-requires c κs = search needs

@@ -18,12 +18,12 @@ use Rattle.answers.specs.Caps.{cap}
 use Rattle.chars.specs.Utf8.{byteAt}
 use Rattle.chars.specs.View.{charsFrom}
 use Rattle.chars.proofs.Utf8Laws.{ascii-at}
 use Rattle.parts.specs.declared.Letter.{Letter}
 use Rattle.parts.specs.declared.Part.{Part}
 use Rattle.parts.specs.declared.Step.{Step}
 use Rattle.parts.specs.Parts.{letters, letterOf, stepBy, endedBy, partsFrom}
-use Rattle.parts.specs.inner.OneCase.{caseOf, follows, Follow}
+use Rattle.names.specs.inner.OneCase.{caseOf, follows, Follow}
 use Rattle.parts.proofs.PartLaws.{parts-ended, parts-on}
 
 -- the two cases: where their letters begin, what a letter is, and the part that it stands in
 lowOf : Bool → ℕ

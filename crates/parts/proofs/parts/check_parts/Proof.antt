@@ -11,8 +11,8 @@ use Rattle.parts.specs.declared.Part.{Part}
 use Rattle.parts.specs.Parts.{partsFrom}
 use Rattle.parts.proofs.PartLaws.{part-passes, parts-ended, parts-end, parts-ill, parts-on, parts-empty, parts-bad}
 use borrow.Author.Needs.{needs}
-use Rattle.parts.proofs.parts.walk_parts.Statement.{statement}
-use Rattle.parts.proofs.parts.walk_parts.Tie as tie
+use Rattle.parts.proofs.parts.check_parts.Statement.{statement}
+use Rattle.parts.proofs.parts.check_parts.Tie as tie
 
 abbrev Inv-loop : tie.InvT-loop
 Inv-loop text start end at₀ part₀ at part = partsFrom start end Part.First (charsFrom text at₀) ≡ partsFrom start end part (charsFrom text at)
@@ -91,8 +91,8 @@ enum-told-3 c = search needs
 returns-5 : tie.Need-returns-5 Inv-loop μ-loop
 returns-5 c = sym (behind (c .before .before .before .before .before .before .before .before .before .before) ∙ parts-bad _ _ _ _ _ (c .before .before .before .before .before .before .before .if1 .left) _ _ (stands (c .before .before .before .before)) (sym (c .before .before .step-by .ensures) ∙ c .enum-told3 .given .1))
 
-pub walk-parts-spec : {M : Type 1} → statement M
-walk-parts-spec =
+pub check-parts-spec : {M : Type 1} → statement M
+check-parts-spec =
     tie.close
     (tie.spec
     Inv-loop
