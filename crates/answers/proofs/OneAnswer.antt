@@ -16,7 +16,7 @@ use Rattle.answers.specs.contracts.Refusal.detail
 use Rattle.answers.specs.contracts.Verdict.numbers as verdict_numbers
 
 module _ {M : Type 1} {𝓤 : Ura M} (𝓛 : Logic 𝓤) (mem : Memory → SProp 𝓤) (run : Routine → Fun 𝓤) where
-  pub in_map_one : OneAnswer 𝓤 in_map_lem.ended (in_map_lem.clauses 𝓛 mem run)
+  pub in_map_one : OneAnswer 𝓤 in_map.ended (in_map.clauses 𝓛 mem run)
   in_map_one κs a g z z' e e' = agree 𝓤
 
   pub check_length_one : OneAnswer 𝓤 check_length.ended (check_length.clauses 𝓛 mem run)

@@ -80,6 +80,7 @@ pub struct Numbers {
 }
 
 // The one way from a place to a position.
+#[tactic(auto, unfolding(crate::specs::Places::in_map))]
 pub fn in_map(offset: u32, place: Place) -> Position
     ensures { result ≡ in_map offset place }
 {
@@ -133,6 +134,7 @@ fn kinds(expected: u8, found: u8) -> u32
 
 impl Refusal {
     // The three numbers of a refusal.
+    #[tactic(auto, unfolding(crate::specs::Refusals::told))]
     pub fn numbers(self) -> Numbers
         ensures { result ≡ told self }
     {
@@ -191,6 +193,7 @@ impl Refusal {
 
 impl Verdict {
     // The three numbers of a verdict: 0, 0 and 0 where it accepts.
+    #[tactic(auto, unfolding(crate::specs::Refusals::told_of))]
     pub fn numbers(self) -> Numbers
         ensures { result ≡ told_of self }
     {

@@ -11,12 +11,12 @@ beyond-cap : (length detail : ℕ) → cap < length → detail ≡ min length 42
 unfolding length_verdict
 beyond-cap length detail l e = rw (e, lt-leb _ _ l)
 
-pub check-length-spec : {M : Type 1} → statement M
+pub check_length_spec : {M : Type 1} → statement M
 unfolding length_verdict
-check-length-spec =
+check_length_spec =
     tie.close
     (tie.spec
-    (λ c. rw (le-leb _ _ c.if1.true))
-    (λ c. beyond-cap _ _ c.before.if1.false (omega arith))
+    (λ c. rw (le-leb _ _ c.if-length-le65536.true))
+    (λ c. beyond-cap _ _ c.before.if-length-le65536.false (omega arith))
     (λ c. search rules)
-    (λ c. beyond-cap _ _ c.before.if1.false (omega arith)))
+    (λ c. beyond-cap _ _ c.before.if-length-le65536.false (omega arith)))

@@ -10,15 +10,15 @@ use borrow.Author.Rules.{rules}
 use Rattle.terms.proofs.same.Statement.{statement}
 use Rattle.terms.proofs.same.Tie as tie
 
-abbrev invariant-loop : tie.invariant-loop
+abbrev invariant-loop : tie.invariant-loop-i
 invariant-loop a b i₀ i = (i ≤ length a) × (same_bytes a b ≡ same_bytes (drop i a) (drop i b))
 
-abbrev decreases-loop : tie.decreases-loop
+abbrev decreases-loop : tie.decreases-loop-i
 decreases-loop a b i₀ i = length a - i
 
 -- the loop's turn, and what it has
 abbrev Turn : Type 0
-Turn = tie.At-loop invariant-loop decreases-loop
+Turn = tie.At-loop-i invariant-loop decreases-loop
 
 abbrev a : Turn → List ℕ
 a r = r.before.before.args.a.now
@@ -26,20 +26,20 @@ a r = r.before.before.args.a.now
 abbrev b : Turn → List ℕ
 b r = r.before.before.args.b.now
 
-returns-2 : tie.Need-returns-2 invariant-loop decreases-loop
+returns-2 : tie.Need-returns-then-a-i invariant-loop decreases-loop
 returns-2 c =
     let r : Turn = c.before.before.before.before in
-    sym (r.loop.invariant.1 ∙ same_differ (a r) (b r) r.loop.i (omega arith) (omega arith) c.if2.true)
+    sym (r.loop-i.invariant.1 ∙ same_differ (a r) (b r) r.loop-i.i (omega arith) (omega arith) c.if-a-i.true)
 
-loop-again : tie.Need-loop-preserved invariant-loop decreases-loop
+loop-again : tie.Need-loop-i-preserved invariant-loop decreases-loop
 loop-again c =
     let r : Turn = c.before.before.before.before in
-    (omega arith, r.loop.invariant.1 ∙ same_step (a r) (b r) r.loop.i (omega arith) (omega arith) c.if2.false)
+    (omega arith, r.loop-i.invariant.1 ∙ same_step (a r) (b r) r.loop-i.i (omega arith) (omega arith) c.if-a-i.false)
 
-returns-3 : tie.Need-returns-3 invariant-loop decreases-loop
+returns-3 : tie.Need-returns invariant-loop decreases-loop
 returns-3 c =
     let r : Turn = c.before in
-    sym (r.loop.invariant.1 ∙ same_end (a r) (b r) r.loop.i (omega arith) (omega arith))
+    sym (r.loop-i.invariant.1 ∙ same_end (a r) (b r) r.loop-i.i (omega arith) (omega arith))
 
 pub same_spec : {M : Type 1} → statement M
 same_spec =
@@ -47,7 +47,7 @@ same_spec =
     (tie.spec
     invariant-loop
     decreases-loop
-    (λ c. sym (same_longer _ _ c.if1.true))
+    (λ c. sym (same_longer _ _ c.if-a-b.true))
     (λ c. (search rules, refl))
     (λ c. search rules)
     (λ c. search rules)

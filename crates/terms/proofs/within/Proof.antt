@@ -6,9 +6,9 @@ use Rattle.terms.proofs.TestLaws.{within_below}
 use Rattle.terms.proofs.within.Statement.{statement}
 use Rattle.terms.proofs.within.Tie as tie
 
-returns-2 : tie.Need-returns-2
+returns-2 : tie.Need-returns-else-x-low
 unfolding within
-returns-2 c = simp (le-leb _ _ c.if1.false)
+returns-2 c = simp (le-leb _ _ c.if-x-low.false)
 
-pub within-spec : {M : Type 1} → statement M
-within-spec = tie.close (tie.spec (λ c. sym (within_below _ _ _ c.if1.true)) returns-2)
+pub within_spec : {M : Type 1} → statement M
+within_spec = tie.close (tie.spec (λ c. sym (within_below _ _ _ c.if-x-low.true)) returns-2)
