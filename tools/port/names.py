@@ -1,6 +1,6 @@
 #!/usr/bin/env python3
-"""Turns the names that a crate's whole proofs cite of a function's steps, which were numbers in the older Rattle, to today's, by the list that
-`rt check --generated DIR --old-names` writes.
+"""Turns the names that a crate's whole proofs cite of a function's steps, which were numbers in the older Rattle, to today's, and the ways back
+from a step to an earlier one, by what `rt check --generated` writes.
 
 usage: names.py CRATE_FOLDER [FUNCTION..]
 """
@@ -11,62 +11,140 @@ import sys
 import tempfile
 from pathlib import Path
 
+WORD = r"[\w'₀₁₂₃’-]+"
 
-def listed(crate):
+
+def generated(crate):
+    """The list of names, and of each function its steps' modules."""
     with tempfile.TemporaryDirectory() as folder:
-        subprocess.run(["rt", "check", "--generated", folder + "/names", "--old-names"], cwd=crate, capture_output=True, text=True)
-        return json.loads(next(Path(folder).rglob("names.json")).read_text(encoding="utf-8"))
+        for flags in ([folder + "/names", "--old-names"], [folder + "/all"]):
+            subprocess.run(["rt", "check", "--generated", *flags], cwd=crate, capture_output=True, text=True)
+        names = json.loads(next(Path(folder, "names").rglob("names.json")).read_text(encoding="utf-8"))
+        steps = {}
+        for path in Path(folder, "all").rglob("Lts.antt"):
+            steps[str(path.parent).split("-proofs/", 1)[-1]] = path.read_text(encoding="utf-8")
+    return names, steps
+
+
+def plain(name):
+    """A name with its underscores as dashes, which older names had."""
+    return name.replace("_", "-")
 
 
 def add(table, old, new):
-    if old and new and old != new:
-        table.setdefault(old, new)
+    if old and new:
+        table.setdefault(plain(old), new)
 
 
-def pairs(entry):
-    """Of a function the older names of its needs, places and steps, each with today's."""
-    needs, places, steps, fields = {}, {}, {}, {}
-    for old, new in entry["needs"]:
-        add(needs, old, new)
-    for old, new in entry["asked_at"]:
-        add(places, old, new)
-    for (old, *_), new in zip(entry["places"], entry["places_by_name"]):
-        add(places, old, new)
-    for _, _, (old, new), *_ in entry["places"]:
-        add(steps, old, new)
-    for (old, new), _ in entry["loops"]:
-        add(steps, old, new)
-    return needs, places, steps
+class Steps:
+    """What is known of a function's steps: today's names of its needs, places and steps; each place's parent; each need's place."""
+
+    def __init__(self, entry, lts):
+        self.needs, self.places, self.steps, self.loops = {}, {}, {}, [pair for pair, _ in entry["loops"]]
+        for old, new in entry["needs"]:
+            add(self.needs, old, new)
+        for old, new in entry["asked_at"]:
+            add(self.places, old, new)
+        for (old, *_), new in zip(entry["places"], entry["places_by_name"]):
+            add(self.places, old, new)
+        for _, _, (old, new), *_ in entry["places"]:
+            add(self.steps, old, new)
+        for old, new in self.loops:
+            add(self.steps, old, new)
+        self.parent = {}
+        for name, body in re.findall(r"pub record (\S+)[^\n]* : Type 0 where\n\s+pub before : (\S+)", lts):
+            self.parent[name] = body
+        self.at = dict(re.findall(r"Need-(\S+) =\s+\(c : ([^\s()]+)", lts))
+        self.order = [new for _, new in entry["needs"]]
+
+    def need(self, name):
+        for start in ("", "overflow-", "bounds-"):
+            if name.startswith(start) and plain(name[len(start):]) in self.needs:
+                return self.needs[plain(name[len(start):])]
+        return name
+
+    def hops(self, start, end):
+        """How often `before` leads from one place to another; None where it doesn't."""
+        count = 0
+        while start and start != end:
+            start, count = self.parent.get(start), count + 1
+        return count if start else None
 
 
-def turned(text, entry):
-    needs, places, steps = pairs(entry)
-    for old, new in [pair[0] for pair in entry["loops"]]:
+def chain(var, count):
+    return var + ".before" * count
+
+
+def turned(text, steps):
+    for old, new in steps.loops:
         for word in ("invariant", "decreases"):
             text = re.sub(rf"(?<![\w'-])tie\.{word}-{re.escape(old)}(?![\w'-])", f"tie.{word}-{new}", text)
 
     def turn_tie(found):
         name = found[1]
-        if name.startswith("Need-") and name[5:] in needs:
-            return "tie.Need-" + needs[name[5:]]
-        return "tie." + places.get(name, name)
-
-    def turn_field(found):
-        return "." + steps.get(found[1], found[1])
+        if name.startswith("Need-"):
+            return "tie.Need-" + steps.need(name[5:])
+        return "tie." + steps.places.get(plain(name), name)
 
     lines = []
     for line in text.split("\n"):
         if not line.lstrip().startswith(("use ", "--")):
-            line = re.sub(r"(?<![\w'.-])tie\.([\w'-]+)", turn_tie, line)
-            line = re.sub(r"(?<=[\w'’₀₁₂₃)])\.([\w'-]+)", turn_field, line)
+            line = re.sub(rf"(?<![\w'.-])tie\.([\w'-]+)", turn_tie, line)
+            line = re.sub(r"(?<=[\w'’₀₁₂₃)])\.([\w'-]+)", lambda m: "." + steps.steps.get(plain(m[1]), m[1]), line)
+            # a step's fields are those of each later one too
+            line = re.sub(rf"({WORD})(?:\.before)+\.(?!before)(?=[\w'])", r"\1.", line)
         lines.append(line)
     return "\n".join(lines)
+
+
+def led(text, steps):
+    """The ways back, counted anew: in a typed let, and where a lemma about a place is given an earlier one of the step at hand."""
+    takes = dict(re.findall(rf"(?m)^(?:abbrev )?({WORD}) : (?:\(\w+ : )?tie\.({WORD})", text))
+    takes = {name: place for name, place in takes.items() if not place.startswith(("Need-", "invariant-", "decreases-"))}
+    takes |= dict(re.findall(rf"(?m)^abbrev ({WORD}) : Type 0\n\1 = tie\.({WORD})", text)) and {}
+    alias = dict(re.findall(rf"(?m)^abbrev ({WORD}) : Type 0\n{WORD} = tie\.({WORD})", text))
+    for name, place in re.findall(rf"(?m)^(?:abbrev |pub )?({WORD}) : \(?(?:\w+ : )?({WORD})\)? →", text):
+        if place in alias:
+            takes.setdefault(name, alias[place])
+    out, place, order = [], None, iter(steps.order)
+    inside = False
+    known = {}
+    for line in text.split("\n"):
+        head = re.match(rf"(?:abbrev |pub )?({WORD}) : (.*)", line)
+        if head:
+            need = re.search(rf"tie\.Need-({WORD})", head[2])
+            first = re.match(rf"\(?(?:(\w+) : )?(?:tie\.)?({WORD})", head[2])
+            place = steps.at.get(need[1]) if need else takes.get(head[1])
+            known = {}
+            target = re.search(rf"→ tie\.({WORD})$", line)
+            back = target[1] if target else None
+            name = head[1]
+        if place:
+            bound = re.match(rf"{WORD} (\w+) =", line)
+            if bound and head is None:
+                known = {bound[1]: place}
+                if back:
+                    hops = steps.hops(place, back)
+                    if hops is not None:
+                        line = f"{name} {bound[1]} = {chain(bound[1], hops)}"
+            typed = re.search(rf"let (\w+) : (?:tie\.)?({WORD})[^=]*= (\w+)(?:\.before)* in", line)
+            if typed and typed[3] in known:
+                to = alias.get(typed[2], typed[2])
+                hops = steps.hops(known[typed[3]], to)
+                if hops is not None:
+                    line = re.sub(rf"= {typed[3]}(?:\.before)* in", f"= {chain(typed[3], hops)} in", line)
+                known[typed[1]] = to
+        if line.strip() in ("(tie.spec", "tie.spec") or "(tie.spec" in line:
+            inside = True
+        out.append(line)
+    return "\n".join(out)
 
 
 def main():
     crate = Path(sys.argv[1])
     wanted = sys.argv[2:]
-    for key, entry in listed(crate).items():
+    names, all_steps = generated(crate)
+    for key, entry in names.items():
         if "-proofs." not in key or not key.endswith(".Lts"):
             continue
         path = key.split("-proofs.", 1)[1].removesuffix(".Lts").replace(".", "/")
@@ -75,7 +153,8 @@ def main():
         proof = crate / "proofs" / path / "Proof.antt"
         if proof.is_file():
             old = proof.read_text(encoding="utf-8")
-            new = turned(old, entry)
+            steps = Steps(entry, all_steps[path])
+            new = led(turned(old, steps), steps)
             function = path.rsplit("/", 1)[-1]
             new = re.sub(rf"(?<![\w'-]){re.escape(function.replace('_', '-'))}-spec(?![\w'-])", f"{function}_spec", new)
             if new != old:

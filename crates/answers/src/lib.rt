@@ -7,28 +7,28 @@ ghost use Rattle.answers.specs.Caps.{length_verdict, text_verdict};
 ghost use Rattle.answers.specs.Refusals.{row, told, told_of};
 
 // A place in the source: bytes from the text's start.
-#[derive(Drop)]
+#[derive(Clone, Copy)]
 pub struct Place(pub u32);
 
 // A position in the map: the text's offset in the map, and a place, added.
-#[derive(Drop)]
+#[derive(Clone, Copy)]
 pub struct Position(pub u32);
 
 // Where a token stands in the map: its first position, and the first after it.
-#[derive(Drop)]
+#[derive(Clone, Copy)]
 pub struct Span {
     pub start: Position,
     pub end: Position,
 }
 
 // An ill-formed sequence of bytes: where it starts.
-#[derive(Drop)]
+#[derive(Clone, Copy)]
 pub struct Ill {
     pub at: Place,
 }
 
 // Why a call refuses, in the order of the paper's numbers, 1 to 30 without 9, and 33. Where lex.rs has an error of that meaning, the name is its.
-#[derive(Drop)]
+#[derive(Clone, Copy)]
 pub enum Refusal {
     TooLong(u32),
     OutOfMap,
@@ -65,14 +65,14 @@ pub enum Refusal {
 }
 
 // The answer of a check that hands nothing back.
-#[derive(Drop)]
+#[derive(Clone, Copy)]
 pub enum Verdict {
     Accepted,
     Refused(Refusal),
 }
 
 // The three numbers that come back: 01's number, position and detail.
-#[derive(Drop)]
+#[derive(Clone, Copy)]
 pub struct Numbers {
     pub number: u32,
     pub position: u32,

@@ -12,7 +12,7 @@ pub use reading::{byte_at, folded_at, lead_of, read_at, single_at};
 pub use runs::{limit, run_end};
 
 // What stands at a place: the end of the text, an ill-formed sequence, or a character and the next place.
-#[derive(Drop)]
+#[derive(Clone, Copy)]
 pub enum Read {
     End,
     Ill(Ill),
@@ -20,7 +20,7 @@ pub enum Read {
 }
 
 // What a first byte starts: a sequence of one byte, of two, three or four with the range of the second byte, or none.
-#[derive(Drop)]
+#[derive(Clone, Copy)]
 pub enum Lead {
     Alone,
     Two(u32, u32),
@@ -30,7 +30,7 @@ pub enum Lead {
 }
 
 // A set of bytes below 0x80: bit b of `low` for a byte b below 64, bit b - 64 of `high` for any other.
-#[derive(Drop)]
+#[derive(Clone, Copy)]
 pub struct AsciiSet {
     pub low: u64,
     pub high: u64,

@@ -10,7 +10,7 @@ ghost use Rattle.clerk.specs.Sorted.{sorted};
 use answers::{Refusal, Verdict};
 
 // The verdict, and with 0 and 30 how many listed dependencies have a target that was placed; else 0.
-#[derive(Drop)]
+#[derive(Clone, Copy)]
 pub struct Sorted {
     pub verdict: Verdict,
     pub settled: u32,

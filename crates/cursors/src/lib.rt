@@ -11,20 +11,20 @@ use answers::{Place, Refusal};
 use steps::{Moved, Opened, Step};
 
 // Where in a text the next step reads.
-#[derive(Drop)]
+#[derive(Clone, Copy)]
 pub struct Cursor {
     pub at: Place,
 }
 
 // What opening answers: a cursor at the text's first token, or the refusal.
-#[derive(Drop)]
+#[derive(Clone, Copy)]
 pub enum Opening {
     Cursor(Cursor),
     Refused(Refusal),
 }
 
 // A step's answer, and the place of the cursor as a plain number.
-#[derive(Drop)]
+#[derive(Clone, Copy)]
 pub struct Went {
     pub step: Step,
     pub at: u32,

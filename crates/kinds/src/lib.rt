@@ -10,7 +10,7 @@ ghost use Rattle.kinds.specs.Kinds.{kind_of};
 pub use words::keyword;
 
 // The kinds of token, in the order of lex.rs's `Token`: a kind's number is its place in it.
-#[derive(Drop)]
+#[derive(Clone, Copy)]
 pub enum Token {
     Whitespace,
     Comment,

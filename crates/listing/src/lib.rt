@@ -13,14 +13,14 @@ use answers::{Place, Refusal};
 use steps::Opened;
 
 // Which tokens have a row: all of them, or none that is a blank or a comment.
-#[derive(Drop)]
+#[derive(Clone, Copy)]
 pub enum Listing {
     Raw,
     Filtered,
 }
 
 // What a listing answers: how many rows it wrote, or the refusal.
-#[derive(Drop)]
+#[derive(Clone, Copy)]
 pub enum Listed {
     Count(u32),
     Refused(Refusal),

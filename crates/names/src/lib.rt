@@ -8,7 +8,7 @@ use answers::{Place, Refusal};
 pub use spans::{parse_explicit_id, parse_id, validate_explicit_id, validate_id};
 
 // An identifier, from one place of the text to another; or the refusal.
-#[derive(Drop)]
+#[derive(Clone, Copy)]
 pub enum Named {
     Id(Place, Place),
     Refused(Refusal),

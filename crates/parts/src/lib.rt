@@ -6,7 +6,7 @@ mod parts;
 pub use parts::check_parts;
 
 // What a character is to an identifier.
-#[derive(Drop)]
+#[derive(Clone, Copy)]
 pub enum Letter {
     Dash,
     Digit,
@@ -17,7 +17,7 @@ pub enum Letter {
 
 // Where in the parts of an identifier the walk stands: at the start of the first part, at the start of a later one,
 // in a part that has digits alone so far, or in one whose letters are of this case.
-#[derive(Drop)]
+#[derive(Clone, Copy)]
 pub enum Part {
     First,
     Next,
@@ -27,7 +27,7 @@ pub enum Part {
 }
 
 // What a character does: the walk goes on, a part is empty, or the character is bad.
-#[derive(Drop)]
+#[derive(Clone, Copy)]
 pub enum Step {
     On(Part),
     Empty,

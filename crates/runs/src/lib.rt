@@ -9,7 +9,7 @@ pub use comments::{block_comment, line_comment};
 pub use runs::{run_from, run_on};
 
 // The runs that rules take: of blanks, of digits, and of keylike continuations.
-#[derive(Drop)]
+#[derive(Clone, Copy)]
 pub enum Run {
     Blanks,
     Digits,
@@ -17,7 +17,7 @@ pub enum Run {
 }
 
 // Where in a block comment the walk stands: how deep, and whether a `/` or a `*` that no pair has eaten came last.
-#[derive(Drop)]
+#[derive(Clone, Copy)]
 pub enum Block {
     Other(u32),
     Slash(u32),
@@ -26,7 +26,7 @@ pub enum Block {
 }
 
 // Where a run or a comment ends: the place where the rest begins, or a refusal.
-#[derive(Drop)]
+#[derive(Clone, Copy)]
 pub enum Ran {
     To(Place),
     Stopped(Refusal),

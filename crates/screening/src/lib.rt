@@ -9,7 +9,7 @@ pub use plain::plain_end;
 pub use screening::{detect_invalid_input, offence_of};
 
 // What screening finds wrong with a character.
-#[derive(Drop)]
+#[derive(Clone, Copy)]
 pub enum Offence {
     None,
     Control,

@@ -11,14 +11,14 @@ pub use opening::open;
 pub use stepping::{check_step, is_blank, next_at, next_raw_at, next_step};
 
 // What opening answers: the place where the cursor stands, or the refusal.
-#[derive(Drop)]
+#[derive(Clone, Copy)]
 pub enum Opened {
     At(Place),
     Refused(Refusal),
 }
 
 // What a step answers: a token with its span; the end of the text; `No` from eat alone, where the next token is another; or a refusal.
-#[derive(Drop)]
+#[derive(Clone, Copy)]
 pub enum Step {
     Token(Token, Span),
     End,
@@ -27,7 +27,7 @@ pub enum Step {
 }
 
 // A step's answer, and the place where the cursor then stands.
-#[derive(Drop)]
+#[derive(Clone, Copy)]
 pub struct Moved {
     pub step: Step,
     pub at: Place,

@@ -11,7 +11,7 @@ pub use decoding::string_literal;
 pub use rule::expect_string_literal;
 
 // Where in a string the walk stands.
-#[derive(Drop)]
+#[derive(Clone, Copy)]
 pub enum Inside {
     // between characters
     Plain,
@@ -28,7 +28,7 @@ pub enum Inside {
 }
 
 // What a turn adds to the gathered bytes: nothing, one byte, or a character's.
-#[derive(Drop)]
+#[derive(Clone, Copy)]
 pub enum More {
     Nothing,
     One(u32),
@@ -36,7 +36,7 @@ pub enum More {
 }
 
 // What one character does: the walk goes on, the string is closed, or it is refused.
-#[derive(Drop)]
+#[derive(Clone, Copy)]
 pub enum Turn {
     On(Inside, More),
     Close,
@@ -44,21 +44,21 @@ pub enum Turn {
 }
 
 // What the string rule answers: the place behind the closing quote and the number of gathered bytes, or the refusal.
-#[derive(Drop)]
+#[derive(Clone, Copy)]
 pub enum Literal {
     Closed(Place, u32),
     Refused(Refusal),
 }
 
 // What decoding answers: the number of bytes in the value, or the refusal.
-#[derive(Drop)]
+#[derive(Clone, Copy)]
 pub enum Decoded {
     Value(u32),
     Refused(Refusal),
 }
 
 // A character that has to stand at a place, with the next place; or the refusal, where the text ends or is ill-formed there.
-#[derive(Drop)]
+#[derive(Clone, Copy)]
 enum Expected {
     Char(u32, Place),
     Fail(Refusal),
@@ -66,7 +66,7 @@ enum Expected {
 
 // What stands in a string between characters, by one character or by a whole escape:
 // what it adds and the place behind it, the closing quote and the place behind it, or a refusal.
-#[derive(Drop)]
+#[derive(Clone, Copy)]
 enum Element {
     Adds(More, Place),
     Close(Place),
@@ -75,7 +75,7 @@ enum Element {
 
 // What is known of the gathered bytes: they are well-formed; a sequence is in progress (where it starts, the range of its next byte, and how many bytes it lacks);
 // or the first ill-formed sequence starts there.
-#[derive(Drop)]
+#[derive(Clone, Copy)]
 enum Seen {
     Well,
     Part(u32, u32, u32, u32),

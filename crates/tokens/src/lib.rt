@@ -8,7 +8,7 @@ use kinds::Token;
 pub use rules::next_raw;
 
 // The rule that a token's first character calls for.
-#[derive(Drop)]
+#[derive(Clone, Copy)]
 pub enum Rule {
     Blanks,
     Slash,
@@ -24,7 +24,7 @@ pub enum Rule {
 }
 
 // What a raw step answers: a token with its span and the place behind it, the end of the text, or a refusal.
-#[derive(Drop)]
+#[derive(Clone, Copy)]
 pub enum Raw {
     Token(Token, Span, Place),
     End,
@@ -32,7 +32,7 @@ pub enum Raw {
 }
 
 // What a rule makes of a token: its kind and the place behind it, or a refusal.
-#[derive(Drop)]
+#[derive(Clone, Copy)]
 pub enum Lexed {
     As(Token, Place),
     Not(Refusal),

@@ -22,7 +22,7 @@ use listing::Listing;
 
 // struct witbox_opened
 #[repr(C)]
-#[derive(Drop)]
+#[derive(Clone, Copy)]
 pub struct OpenAnswer {
     pub number: u32,
     pub position: u32,
@@ -32,7 +32,7 @@ pub struct OpenAnswer {
 
 // struct witbox_step
 #[repr(C)]
-#[derive(Drop)]
+#[derive(Clone, Copy)]
 pub struct StepAnswer {
     pub number: u32,
     pub position: u32,
@@ -44,7 +44,7 @@ pub struct StepAnswer {
 
 // struct witbox_listed and struct witbox_decoded
 #[repr(C)]
-#[derive(Drop)]
+#[derive(Clone, Copy)]
 pub struct CountAnswer {
     pub number: u32,
     pub position: u32,
@@ -54,7 +54,7 @@ pub struct CountAnswer {
 
 // struct witbox_named
 #[repr(C)]
-#[derive(Drop)]
+#[derive(Clone, Copy)]
 pub struct NameAnswer {
     pub number: u32,
     pub position: u32,
@@ -65,7 +65,7 @@ pub struct NameAnswer {
 
 // struct witbox_sorted
 #[repr(C)]
-#[derive(Drop)]
+#[derive(Clone, Copy)]
 pub struct SortAnswer {
     pub number: u32,
     pub position: u32,
@@ -75,7 +75,7 @@ pub struct SortAnswer {
 
 // struct witbox_verdict
 #[repr(C)]
-#[derive(Drop)]
+#[derive(Clone, Copy)]
 pub struct VerdictAnswer {
     pub number: u32,
     pub position: u32,

@@ -19,9 +19,9 @@ in-digits : (low high x v : ℕ) → low ≤ x → x ≤ high → digitsOn low h
 unfolding digitsOn to_hex
 in-digits low high x v p q e = sym (in_range [] low high x tt p q (hex_digits x) 16 v e)
 
-pub to-hex-spec : {M : Type 1} → statement M
+pub to_hex_spec : {M : Type 1} → statement M
 unfolding digitsOn
-to-hex-spec =
+to_hex_spec =
     tie.close
     (tie.spec
     (λ c. search rules)

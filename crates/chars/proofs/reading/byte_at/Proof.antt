@@ -7,13 +7,13 @@ use borrow.Author.Rules.{rules}
 use Rattle.chars.proofs.reading.byte_at.Statement.{statement}
 use Rattle.chars.proofs.reading.byte_at.Tie as tie
 
-pub byte-at-spec : {M : Type 1} → statement M
+pub byte_at_spec : {M : Type 1} → statement M
 unfolding byte_at
-byte-at-spec =
+byte_at_spec =
     tie.close
     (tie.spec
     (λ c. search rules)
     (λ c. search rules)
-    (λ c. omega (arith, c.shared-slice-known.given c.before.before.before.args.at.0))
+    (λ c. omega (arith, c.shared_slice_known-1.given c.before.before.before.args.at.0))
     (λ c. refl)
-    (λ c. sym (get_or-eq_default c.before.before.args.text.now 0 c.if1.false)))
+    (λ c. sym (get_or-eq_default c.before.before.args.text.now 0 c.if-k-text.false)))

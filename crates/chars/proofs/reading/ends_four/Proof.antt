@@ -4,11 +4,11 @@ use borrow.Author.Rules.{rules}
 use Rattle.chars.proofs.reading.ends_four.Statement.{statement}
 use Rattle.chars.proofs.reading.ends_four.Tie as tie
 
-pub ends-four-spec : {M : Type 1} → statement M
-ends-four-spec =
+pub ends_four_spec : {M : Type 1} → statement M
+ends_four_spec =
     tie.close
     (tie.spec
     (λ c κs. search rules)
     (λ c κs. search rules)
-    (λ c. rw (← and_assoc, ← c.before.before.ends-three.ensures, c.before.if1.true) c.is-tail.ensures)
-    (λ c. rw (← and_assoc, ← c.before.ends-three.ensures, c.if1.false)))
+    (λ c. rw (← and_assoc, ← c.before.before.ends_three.ensures, c.before.if-ends_three.true) c.is_tail.ensures)
+    (λ c. rw (← and_assoc, ← c.before.ends_three.ensures, c.if-ends_three.false)))

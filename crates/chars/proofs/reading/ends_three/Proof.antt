@@ -3,11 +3,11 @@ use borrow.Author.Rules.{rules}
 use Rattle.chars.proofs.reading.ends_three.Statement.{statement}
 use Rattle.chars.proofs.reading.ends_three.Tie as tie
 
-pub ends-three-spec : {M : Type 1} → statement M
-ends-three-spec =
+pub ends_three_spec : {M : Type 1} → statement M
+ends_three_spec =
     tie.close
     (tie.spec
     (λ c κs. search rules)
     (λ c κs. search rules)
-    (λ c. rw (← c.before.before.within.ensures, c.before.if1.true) c.is-tail.ensures)
-    (λ c. rw (← c.before.within.ensures, c.if1.false)))
+    (λ c. rw (← c.before.before.within.ensures, c.before.if-within.true) c.is_tail.ensures)
+    (λ c. rw (← c.before.within.ensures, c.if-within.false)))

@@ -8,14 +8,14 @@ use borrow.Author.Rules.{rules}
 use Rattle.chars.proofs.reading.folded_at.Statement.{statement}
 use Rattle.chars.proofs.reading.folded_at.Tie as tie
 
-abbrev top : tie.Then1 → tie.Start
+abbrev top : tie.Then-single_at → tie.Start
 top c = c.before.before.before
 
-single : (c : tie.Then1) → single_at (top c).args.text.now (top c).args.at ≡ true
-single c = sym c.before.single-at.ensures ∙ c.if1.true
+single : (c : tie.Then-single_at) → single_at (top c).args.text.now (top c).args.at ≡ true
+single c = sym c.before.single_at.ensures ∙ c.if-single_at.true
 
-pub folded-at-spec : {M : Type 1} → statement M
-folded-at-spec =
+pub folded_at_spec : {M : Type 1} → statement M
+folded_at_spec =
     tie.close
     (tie.spec
     (λ c κs. search rules)
@@ -23,4 +23,4 @@ folded-at-spec =
     (λ c. omega (arith, single_is _ _ (single c.before.before)))
     (λ c. rw c.before.byte_at.ensures (sym (single_stands _ _ (single c.before.before))))
     (λ c κs. search rules)
-    (λ c. c.any-folded-at.ensures))
+    (λ c. c.any_folded_at.ensures))

@@ -9,39 +9,39 @@ use Rattle.chars.proofs.reading.four_at.Tie as tie
 
 -- where the bytes have been tested: the start, and where each has been read
 abbrev Tested : Type 0
-Tested = tie.After-ends-four
+Tested = tie.After-ends_four
 
 abbrev top : Tested → tie.Start
 top r = r.before.before.before.before.before.before.before.before
 
-abbrev second : Tested → tie.After-byte-at
+abbrev second : Tested → tie.After-byte_at-c
 second r = r.before.before.before.before.before
 
-abbrev third : Tested → tie.After-byte-at2
+abbrev third : Tested → tie.After-byte_at-d
 third r = r.before.before.before
 
-abbrev fourth : Tested → tie.After-byte-at3
+abbrev fourth : Tested → tie.After-byte_at-e
 fourth r = r.before
 
-bytes : (c : tie.Then1)
+bytes : (c : tie.Then-ends_four)
     → let r = c.before in
-    FourIn (top r).args.b (second r).byte_at.result (third r).byte-at2.result (fourth r).byte-at3.result
-bytes c = four_in _ _ _ _ _ _ (top c.before).requires.1 (sym c.before.ends-four.ensures ∙ c.if1.true)
+    FourIn (top r).args.b (second r).byte_at-c.result (third r).byte_at-d.result (fourth r).byte_at-e.result
+bytes c = four_in _ _ _ _ _ _ (top c.before).requires.1 (sym c.before.ends_four.ensures ∙ c.if-ends_four.true)
 
-returns : tie.Need-returns
+returns : tie.Need-returns-then-ends_four
 unfolding char_by
 returns c =
     let r : Tested = c.before.before in
-    simp (← (second r).byte_at.ensures, ← (third r).byte-at2.ensures, ← (fourth r).byte-at3.ensures, ← r.ends-four.ensures, c.before.if1.true)
+    simp (← (second r).byte_at-c.ensures, ← (third r).byte_at-d.ensures, ← (fourth r).byte_at-e.ensures, ← r.ends_four.ensures, c.before.if-ends_four.true)
 
-returns-2 : tie.Need-returns-2
+returns-2 : tie.Need-returns-then-ends_four
 unfolding char_by
 returns-2 c =
     let r : Tested = c.before in
-    simp (← (second r).byte_at.ensures, ← (third r).byte-at2.ensures, ← (fourth r).byte-at3.ensures, ← r.ends-four.ensures, c.if1.false)
+    simp (← (second r).byte_at-c.ensures, ← (third r).byte_at-d.ensures, ← (fourth r).byte_at-e.ensures, ← r.ends_four.ensures, c.if-ends_four.false)
 
-pub four-at-spec : {M : Type 1} → statement M
-four-at-spec =
+pub four_at_spec : {M : Type 1} → statement M
+four_at_spec =
     tie.close
     (tie.spec
     (λ c. search rules)

@@ -4,6 +4,6 @@ use borrow.Author.Rules.{rules}
 use Rattle.chars.proofs.reading.is_tail.Statement.{statement}
 use Rattle.chars.proofs.reading.is_tail.Tie as tie
 
-pub is-tail-spec : {M : Type 1} → statement M
+pub is_tail_spec : {M : Type 1} → statement M
 unfolding is_tail
-is-tail-spec = tie.close (tie.spec (λ c κs. search rules) (λ c. c.within.ensures))
+is_tail_spec = tie.close (tie.spec (λ c κs. search rules) (λ c. c.within.ensures))

@@ -12,9 +12,9 @@ use Rattle.chars.proofs.reading.lead_of.Tie as tie
 abbrev keys : List (List ℕ)
 keys = (0xE0 ∷ []) ∷ (0xED ∷ []) ∷ (0xF0 ∷ []) ∷ (0xF4 ∷ []) ∷ []
 
-pub lead-of-spec : {M : Type 1} → statement M
+pub lead_of_spec : {M : Type 1} → statement M
 unfolding leads_on
-lead-of-spec =
+lead_of_spec =
     tie.close
     (tie.spec
     (λ c. sym (lead_in [] 0xE0 0xE0 _ _ tt (omega arith) (omega arith) refl))

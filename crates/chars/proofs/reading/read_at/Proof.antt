@@ -13,7 +13,7 @@ use Rattle.chars.proofs.reading.read_at.Tie as tie
 
 -- where it is known what the first byte starts: the start, the text, the place and the byte
 abbrev Known : Type 0
-Known = tie.After-lead-of
+Known = tie.After-lead_of
 
 abbrev top : Known → tie.Start
 top r = r.before.before.before.before.before.before
@@ -25,38 +25,38 @@ abbrev at : Known → Place
 at r = (top r).args.at
 
 abbrev b : Known → ℕ
-b r = r.before.byte_at.result
+b r = r.before.byte_at-b.result
 
 -- the first byte starts what the arm says
-starts : (r : Known) (l : Lead) → r.lead-of.result ≡ l → lead_of (b r) ≡ l
-starts r l e = sym r.lead-of.ensures ∙ e
+starts : (r : Known) (l : Lead) → r.lead_of.result ≡ l → lead_of (b r) ≡ l
+starts r l e = sym r.lead_of.ensures ∙ e
 
-reads : (r : Known) (l : Lead) → r.lead-of.result ≡ l
+reads : (r : Known) (l : Lead) → r.lead_of.result ≡ l
     → char_by (at r) (b r) (byte_at (text r) (on_by 1 (at r))) (byte_at (text r) (on_by 2 (at r))) (byte_at (text r) (on_by 3 (at r))) l ≡ char_at (text r) (at r)
 reads r l e =
-    sym (stands_by _ _ _ l r.before.before.before.if1.false r.before.before.if2.false r.before.byte_at.ensures (starts r l e))
+    sym (stands_by _ _ _ l r.before.before.before.if-text-k.false r.before.before.if-k-ge65536.false r.before.byte_at-b.ensures (starts r l e))
 
-pub read-at-spec : {M : Type 1} → statement M
+pub read_at_spec : {M : Type 1} → statement M
 unfolding char_at char_by
-read-at-spec =
+read_at_spec =
     tie.close
     (tie.spec
     (λ c. search rules)
-    (λ c. rw (le-leb _ _ c.if1.true))
-    (λ c. rw (lt-leb _ _ c.before.if1.false, le-leb _ _ c.if2.true))
+    (λ c. rw (le-leb _ _ c.if-text-k.true))
+    (λ c. rw (lt-leb _ _ c.before.if-text-k.false, le-leb _ _ c.if-k-ge65536.true))
     (λ c κs. search rules)
     (λ c κs. search rules)
     (λ c. search rules)
     (λ c. search rules)
     (λ c. search rules)
-    (λ c κs. (search rules, starts c.before.before.before _ c.before.low.given.1))
+    (λ c κs. (search rules, starts c.before.before.before _ c.before.low-1.given.1))
     (λ c. search rules)
-    (λ c κs. (search rules, starts c.before.before.before _ c.before.low2.given.1))
+    (λ c κs. (search rules, starts c.before.before.before _ c.before.low-in-Three-1.given.1))
     (λ c. search rules)
-    (λ c κs. (search rules, starts c.before.before.before _ c.before.low3.given.1))
+    (λ c κs. (search rules, starts c.before.before.before _ c.before.low-in-Four-1.given.1))
     (λ c. search rules)
-    (λ c. reads c.before.before.before _ c.before.enum_told.given.1)
-    (λ c. c.two_at.ensures ∙ reads c.before.before.before.before _ c.before.before.low.given.1)
-    (λ c. c.three-at.ensures ∙ reads c.before.before.before.before _ c.before.before.low2.given.1)
-    (λ c. c.four-at.ensures ∙ reads c.before.before.before.before _ c.before.before.low3.given.1)
-    (λ c. reads c.before.before _ c.enum-told2.given.1))
+    (λ c. reads c.before.before.before _ c.before.enum_told-1.given.1)
+    (λ c. c.two_at.ensures ∙ reads c.before.before.before.before _ c.before.before.low-1.given.1)
+    (λ c. c.three_at.ensures ∙ reads c.before.before.before.before _ c.before.before.low-in-Three-1.given.1)
+    (λ c. c.four_at.ensures ∙ reads c.before.before.before.before _ c.before.before.low-in-Four-1.given.1)
+    (λ c. reads c.before.before _ c.enum_told-in-Never-1.given.1))

@@ -11,21 +11,21 @@ use borrow.Author.Rules.{rules}
 use Rattle.chars.proofs.reading.single_at.Statement.{statement}
 use Rattle.chars.proofs.reading.single_at.Tie as tie
 
-abbrev top : tie.Else2 → tie.Start
+abbrev top : tie.Else-k-ge65536 → tie.Start
 top c = c.before.before.before
 
-inside : (c : tie.Else2) → (leb (length (top c).args.text.now) (top c).args.at.0 || leb cap (top c).args.at.0) ≡ false
-inside c = rw (lt-leb _ _ c.before.if1.false, lt-leb _ _ c.if2.false)
+inside : (c : tie.Else-k-ge65536) → (leb (length (top c).args.text.now) (top c).args.at.0 || leb cap (top c).args.at.0) ≡ false
+inside c = rw (lt-leb _ _ c.before.if-text-k.false, lt-leb _ _ c.if-k-ge65536.false)
 
-pub single-at-spec : {M : Type 1} → statement M
+pub single_at_spec : {M : Type 1} → statement M
 unfolding single_at byte_at
-single-at-spec =
+single_at_spec =
     tie.close
     (tie.spec
     (λ c. search rules)
-    (λ c. rw (le-leb _ _ c.if1.true))
-    (λ c. rw (lt-leb _ _ c.before.if1.false, le-leb _ _ c.if2.true))
+    (λ c. rw (le-leb _ _ c.if-text-k.true))
+    (λ c. rw (lt-leb _ _ c.before.if-text-k.false, le-leb _ _ c.if-k-ge65536.true))
     (λ c. search rules)
-    (λ c. rw (inside c.before.before, eq-eqb _ _ c.if3.true))
+    (λ c. rw (inside c.before.before, eq-eqb _ _ c.if-text-k-eq13.true))
     (λ c. search rules)
-    (λ c. rw (inside c.before.before.before, ne_eqb _ _ c.before.if3.false)))
+    (λ c. rw (inside c.before.before.before, ne_eqb _ _ c.before.if-text-k-eq13.false)))

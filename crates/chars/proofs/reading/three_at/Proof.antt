@@ -9,34 +9,34 @@ use Rattle.chars.proofs.reading.three_at.Tie as tie
 
 -- where the bytes have been tested: the start, and where each has been read
 abbrev Tested : Type 0
-Tested = tie.After-ends-three
+Tested = tie.After-ends_three
 
 abbrev top : Tested → tie.Start
 top r = r.before.before.before.before.before.before
 
-abbrev second : Tested → tie.After-byte-at
+abbrev second : Tested → tie.After-byte_at-c
 second r = r.before.before.before
 
-abbrev third : Tested → tie.After-byte-at2
+abbrev third : Tested → tie.After-byte_at-d
 third r = r.before
 
-bytes : (c : tie.Then1) → let r = c.before in ThreeIn (top r).args.b (second r).byte_at.result (third r).byte-at2.result
-bytes c = three_in _ _ _ _ _ (top c.before).requires.1 (sym c.before.ends-three.ensures ∙ c.if1.true)
+bytes : (c : tie.Then-ends_three) → let r = c.before in ThreeIn (top r).args.b (second r).byte_at-c.result (third r).byte_at-d.result
+bytes c = three_in _ _ _ _ _ (top c.before).requires.1 (sym c.before.ends_three.ensures ∙ c.if-ends_three.true)
 
-returns : tie.Need-returns
+returns : tie.Need-returns-then-ends_three
 unfolding char_by
 returns c =
     let r : Tested = c.before.before in
-    simp (← (second r).byte_at.ensures, ← (third r).byte-at2.ensures, ← r.ends-three.ensures, c.before.if1.true)
+    simp (← (second r).byte_at-c.ensures, ← (third r).byte_at-d.ensures, ← r.ends_three.ensures, c.before.if-ends_three.true)
 
-returns-2 : tie.Need-returns-2
+returns-2 : tie.Need-returns-then-ends_three
 unfolding char_by
 returns-2 c =
     let r : Tested = c.before in
-    simp (← (second r).byte_at.ensures, ← (third r).byte-at2.ensures, ← r.ends-three.ensures, c.if1.false)
+    simp (← (second r).byte_at-c.ensures, ← (third r).byte_at-d.ensures, ← r.ends_three.ensures, c.if-ends_three.false)
 
-pub three-at-spec : {M : Type 1} → statement M
-three-at-spec =
+pub three_at_spec : {M : Type 1} → statement M
+three_at_spec =
     tie.close
     (tie.spec
     (λ c. search rules)

@@ -14,26 +14,26 @@ Tested = tie.After-within
 abbrev top : Tested → tie.Start
 top r = r.before.before.before.before
 
-abbrev second : Tested → tie.After-byte-at
+abbrev second : Tested → tie.After-byte_at-c
 second r = r.before
 
-bytes : (c : tie.Then1) → TwoIn (top c.before).args.b (second c.before).byte_at.result
-bytes c = two_in _ _ _ _ (top c.before).requires.1 (sym c.before.within.ensures ∙ c.if1.true)
+bytes : (c : tie.Then-within) → TwoIn (top c.before).args.b (second c.before).byte_at-c.result
+bytes c = two_in _ _ _ _ (top c.before).requires.1 (sym c.before.within.ensures ∙ c.if-within.true)
 
-returns : tie.Need-returns
+returns : tie.Need-returns-then-within
 unfolding char_by
 returns c =
     let r : Tested = c.before.before in
-    simp (← (second r).byte_at.ensures, ← r.within.ensures, c.before.if1.true)
+    simp (← (second r).byte_at-c.ensures, ← r.within.ensures, c.before.if-within.true)
 
-returns-2 : tie.Need-returns-2
+returns-2 : tie.Need-returns-then-within
 unfolding char_by
 returns-2 c =
     let r : Tested = c.before in
-    simp (← (second r).byte_at.ensures, ← r.within.ensures, c.if1.false)
+    simp (← (second r).byte_at-c.ensures, ← r.within.ensures, c.if-within.false)
 
-pub two-at-spec : {M : Type 1} → statement M
-two-at-spec =
+pub two_at_spec : {M : Type 1} → statement M
+two_at_spec =
     tie.close
     (tie.spec
     (λ c. search rules)

@@ -29,13 +29,13 @@ bit set b h = go (ltb b 64) refl
         let m : b % 64 ≡ b - 64 = omega arith in
         rw (m, lt-ltb b 128 h)
 
-pub has-spec : {M : Type 1} → statement M
+pub has_spec : {M : Type 1} → statement M
 unfolding in_set
-has-spec =
+has_spec =
     tie.close
     (tie.spec
     (λ c κs. search rules)
     (λ c. search rules)
     (λ c. search rules)
-    (λ c. rw c.half.ensures (bit _ _ c.before.if1.true))
-    (λ c. rw (le-ltb c.before.args.b 64 (omega arith), le-ltb _ _ c.if1.false)))
+    (λ c. rw c.half.ensures (bit _ _ c.before.if-b-lt128.true))
+    (λ c. rw (le-ltb c.before.args.b 64 (omega arith), le-ltb _ _ c.if-b-lt128.false)))

@@ -15,10 +15,10 @@ use borrow.Author.Rules.{rules}
 use Rattle.chars.proofs.runs.run_end.Statement.{statement}
 use Rattle.chars.proofs.runs.run_end.Tie as tie
 
-abbrev invariant-loop : tie.invariant-loop
+abbrev invariant-loop : tie.invariant-loop-k
 invariant-loop text set end k₀ k = (k ≤ max end k₀) × (first (stops_at text set) k₀ (end - k₀) ≡ first (stops_at text set) k (end - k))
 
-abbrev decreases-loop : tie.decreases-loop
+abbrev decreases-loop : tie.decreases-loop-k
 decreases-loop text set end k₀ k = end - k
 
 -- where the search ends is the run's end
@@ -29,24 +29,24 @@ ends s set p end k e f = sym (ap place (rw (← e) f))
 
 -- the loop's turn, and the limit
 abbrev Turn : Type 0
-Turn = tie.At-loop invariant-loop decreases-loop
+Turn = tie.At-loop-k invariant-loop decreases-loop
 
-end_is : (r : Turn) → r.before.before.limit.result ≡ min (length r.before.before.before.before.args.text.now) cap
-end_is r = r.before.before.limit.ensures
+end_is : (r : Turn) → r.before.before.limit-end.result ≡ min (length r.before.before.before.before.args.text.now) cap
+end_is r = r.before.before.limit-end.ensures
 
-returns : tie.Need-returns invariant-loop decreases-loop
+returns : tie.Need-returns-then-not-has invariant-loop decreases-loop
 returns c =
     let r : Turn = c.before.before.before.before in
     ends _ _ _ _ _ (end_is r)
-    (r.loop.invariant.1 ∙ first_hit _ _ _ c.before.before.before.loop-test.true (rw (← c.before.has.ensures) c.if1.true))
+    (r.loop-k.invariant.1 ∙ first_hit _ _ _ c.before.before.before.loop-k-test.true (rw (← c.before.has.ensures) c.if-not-has.true))
 
-loop-again : tie.Need-loop-preserved invariant-loop decreases-loop
+loop-again : tie.Need-loop-k-preserved invariant-loop decreases-loop
 loop-again c =
     let r : Turn = c.before.before.before.before in
-    (omega arith, r.loop.invariant.1 ∙ first_miss _ _ _ c.before.before.before.loop-test.true (rw (← c.before.has.ensures) c.if1.false))
+    (omega arith, r.loop-k.invariant.1 ∙ first_miss _ _ _ c.before.before.before.loop-k-test.true (rw (← c.before.has.ensures) c.if-not-has.false))
 
-pub run-end-spec : {M : Type 1} → statement M
-run-end-spec =
+pub run_end_spec : {M : Type 1} → statement M
+run_end_spec =
     tie.close
     (tie.spec
     invariant-loop
@@ -55,7 +55,7 @@ run-end-spec =
     (λ c. search rules)
     (λ c. (omega arith, refl))
     (λ c. omega (arith, end_is c.before.before))
-    (λ c. omega (arith, c.shared-slice-known2.given c.before.before.loop.k))
+    (λ c. omega (arith, c.shared_slice_known-in-loop-k-1.given c.before.before.loop-k.k))
     (λ c κs. search rules)
     (λ c. omega (arith, end_is c.before.before.before.before))
     returns
@@ -63,4 +63,4 @@ run-end-spec =
     (λ c. search rules)
     loop-again
     (λ c. omega (arith, end_is c.before))
-    (λ c. ends _ _ _ _ _ (end_is c.before) (c.before.loop.invariant.1 ∙ first_end _ _ _ c.loop-test.false)))
+    (λ c. ends _ _ _ _ _ (end_is c.before) (c.before.loop-k.invariant.1 ∙ first_end _ _ _ c.loop-k-test.false)))
