@@ -51,6 +51,16 @@ class Steps:
             add(self.steps, old, new)
         for old, new in self.loops:
             add(self.steps, old, new)
+        # what an arm's steps found stands at the arm now, by its name in the pattern
+        self.found = {}
+        for arm in filter(None, entry["arms"]):
+            for field, step, path in arm[2]:
+                if path:
+                    self.found[(plain(step), *path)] = [arm[0], field]
+        for old, new in self.places.items():
+            base = re.sub(r"-\d+$", "", new)
+            if base.startswith("In-") and base in entry["places_by_name"]:
+                self.places[old] = base
         self.parent = {}
         for name, body in re.findall(r"pub record (\S+)[^\n]* : Type 0 where\n\s+pub before : (\S+)", lts):
             self.parent[name] = body
@@ -62,6 +72,21 @@ class Steps:
             if name.startswith(start) and plain(name[len(start):]) in self.needs:
                 return self.needs[plain(name[len(start):])]
         return name
+
+    def path(self, dotted):
+        """A path of fields, respelled."""
+        parts, out = dotted[1:].split("."), []
+        while parts:
+            for length in range(len(parts), 1, -1):
+                key = (plain(parts[0]), *parts[1:length])
+                if key in self.found:
+                    out += self.found[key]
+                    parts = parts[length:]
+                    break
+            else:
+                out.append(self.steps.get(plain(parts[0]), parts[0]))
+                parts = parts[1:]
+        return "." + ".".join(out)
 
     def hops(self, start, end):
         """How often `before` leads from one place to another; None where it doesn't."""
@@ -90,7 +115,7 @@ def turned(text, steps):
     for line in text.split("\n"):
         if not line.lstrip().startswith(("use ", "--")):
             line = re.sub(rf"(?<![\w'.-])tie\.([\w'-]+)", turn_tie, line)
-            line = re.sub(r"(?<=[\w'’₀₁₂₃)])\.([\w'-]+)", lambda m: "." + steps.steps.get(plain(m[1]), m[1]), line)
+            line = re.sub(r"(?<=[\w'’₀₁₂₃)])((?:\.[\w'-]+)+)", lambda m: steps.path(m[1]), line)
             # a step's fields are those of each later one too
             line = re.sub(rf"({WORD})(?:\.before)+\.(?!before)(?=[\w'])", r"\1.", line)
         lines.append(line)
@@ -101,14 +126,23 @@ def led(text, steps):
     """The ways back, counted anew: in a typed let, and where a lemma about a place is given an earlier one of the step at hand."""
     takes = dict(re.findall(rf"(?m)^(?:abbrev )?({WORD}) : (?:\(\w+ : )?tie\.({WORD})", text))
     takes = {name: place for name, place in takes.items() if not place.startswith(("Need-", "invariant-", "decreases-"))}
-    takes |= dict(re.findall(rf"(?m)^abbrev ({WORD}) : Type 0\n\1 = tie\.({WORD})", text)) and {}
     alias = dict(re.findall(rf"(?m)^abbrev ({WORD}) : Type 0\n{WORD} = tie\.({WORD})", text))
-    for name, place in re.findall(rf"(?m)^(?:abbrev |pub )?({WORD}) : \(?(?:\w+ : )?({WORD})\)? →", text):
+    for name, place in re.findall(rf"(?m)^(?:abbrev |pub )?({WORD}) : (?:\(\w+ : )?(?:tie\.)?({WORD})\)?(?= )", text):
         if place in alias:
             takes.setdefault(name, alias[place])
-    out, place, order = [], None, iter(steps.order)
-    inside = False
+    out, place = [], None
     known = {}
+
+    def given(line):
+        """The ways back in what lemmas about a place are given."""
+        for name, to in takes.items():
+            for var, here in known.items():
+                hops = steps.hops(here, to)
+                if hops is not None:
+                    back = re.escape(chain(var, 0))
+                    line = re.sub(rf"(?<![\w'.-])({re.escape(name)}) {back}((?:\.before)+)(?![\w'.-])", lambda m: f"{m[1]} {chain(var, hops)}", line)
+        return line
+
     for line in text.split("\n"):
         head = re.match(rf"(?:abbrev |pub )?({WORD}) : (.*)", line)
         if head:
@@ -134,9 +168,15 @@ def led(text, steps):
                 if hops is not None:
                     line = re.sub(rf"= {typed[3]}(?:\.before)* in", f"= {chain(typed[3], hops)} in", line)
                 known[typed[1]] = to
-        if line.strip() in ("(tie.spec", "tie.spec") or "(tie.spec" in line:
-            inside = True
-        out.append(line)
+        out.append(given(line) if place else line)
+    start = next((i for i, line in enumerate(out) if line.strip() == "(tie.spec"), None)
+    if start is not None:
+        answers = [i for i in range(start + 1, len(out)) if out[i].strip()]
+        for i, need in zip(answers[-len(steps.order):] if len(answers) >= len(steps.order) else [], steps.order):
+            bound = re.match(r"\s*\(λ (\w+)", out[i])
+            if bound and steps.at.get(need):
+                known = {bound[1]: steps.at[need]}
+                out[i] = given(out[i])
     return "\n".join(out)
 
 

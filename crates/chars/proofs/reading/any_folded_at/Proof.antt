@@ -11,26 +11,26 @@ use Rattle.chars.proofs.reading.any_folded_at.Statement.{statement}
 use Rattle.chars.proofs.reading.any_folded_at.Tie as tie
 
 -- where a character stands: the start, and the character with the next place
-abbrev top : tie.In-Char-2 → tie.Start
-top r = r.before.before.before.before
+abbrev top : tie.In-Char → tie.Start
+top r = r.before.before.before
 
-stands : (r : tie.In-Char-2) → char_at (top r).args.text.now (top r).args.at ≡ Char r.c-1.given.0.0 r.c-1.given.0.1.0
-stands r = sym r.before.before.read_at.ensures ∙ r.c-1.given.1
+stands : (r : tie.In-Char) → char_at (top r).args.text.now (top r).args.at ≡ Char r.in-Char.c r.in-Char.next
+stands r = sym r.read_at.ensures ∙ r.in-Char.is
 
-add-t11 : tie.Need-overflow-add-t11
+add-t11 : tie.Need-overflow_add-result
 add-t11 c =
-    let r : tie.In-Char-2 = c.before.before.before.before.before in
+    let r : tie.In-Char = c.before.before.before.before in
     omega (arith, onward _ _ _ _ (stands r))
 
 returns : tie.Need-returns-then-byte_at-eq10
 returns c =
-    let r : tie.In-Char-2 = c.before.before.before.before.before in
-    sym (cr_lf_folded _ _ _ _ (stands r) c.before.before.before.if-c-eq13.true (sym c.before.before.byte_at.ensures ∙ c.before.if-byte_at-eq10.true))
+    let r : tie.In-Char = c.before.before.before.before in
+    sym (cr_lf_folded _ _ _ _ (stands r) c.if-c-eq13.true (sym c.byte_at.ensures ∙ c.if-byte_at-eq10.true))
 
 returns-4 : tie.Need-returns-else-byte_at-eq10
 returns-4 c =
-    let r : tie.In-Char-2 = c.before.before.before.before in
-    sym (as_folded_before _ _ _ _ (stands r) (λ e. c.if-byte_at-eq10.false (c.before.byte_at.ensures ∙ e)))
+    let r : tie.In-Char = c.before.before.before in
+    sym (as_folded_before _ _ _ _ (stands r) (λ e. c.if-byte_at-eq10.false (c.byte_at.ensures ∙ e)))
 
 pub any_folded_at_spec : {M : Type 1} → statement M
 unfolding folded_at folded
@@ -44,7 +44,7 @@ any_folded_at_spec =
     (λ c κs. search rules)
     add-t11
     returns
-    (λ c. rw (← c.before.before.read_at.ensures, c.enum_told-1.given.1))
-    (λ c. rw (← c.before.before.before.read_at.ensures, c.before.ill-1.given.1))
+    (λ c. rw (← c.read_at.ensures, c.in-End.is))
+    (λ c. rw (← c.read_at.ensures, c.in-Ill.is))
     returns-4
-    (λ c. sym (as_folded _ _ _ _ (stands c.before.before) c.if-c-eq13.false)))
+    (λ c. sym (as_folded _ _ _ _ (stands c.before) c.if-c-eq13.false)))

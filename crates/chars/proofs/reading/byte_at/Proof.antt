@@ -14,6 +14,6 @@ byte_at_spec =
     (tie.spec
     (λ c. search rules)
     (λ c. search rules)
-    (λ c. omega (arith, c.shared_slice_known-1.given c.before.before.before.args.at.0))
+    (λ c. omega (arith, c.shared_slice_known-1.given c.args.at.0))
     (λ c. refl)
-    (λ c. sym (get_or-eq_default c.before.before.args.text.now 0 c.if-k-text.false)))
+    (λ c. sym (get_or-eq_default c.args.text.now 0 c.if-k-text.false)))

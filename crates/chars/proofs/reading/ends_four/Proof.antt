@@ -10,5 +10,5 @@ ends_four_spec =
     (tie.spec
     (λ c κs. search rules)
     (λ c κs. search rules)
-    (λ c. rw (← and_assoc, ← c.before.before.ends_three.ensures, c.before.if-ends_three.true) c.is_tail.ensures)
-    (λ c. rw (← and_assoc, ← c.before.ends_three.ensures, c.if-ends_three.false)))
+    (λ c. rw (← and_assoc, ← c.ends_three.ensures, c.if-ends_three.true) c.is_tail.ensures)
+    (λ c. rw (← and_assoc, ← c.ends_three.ensures, c.if-ends_three.false)))

@@ -9,5 +9,5 @@ ends_three_spec =
     (tie.spec
     (λ c κs. search rules)
     (λ c κs. search rules)
-    (λ c. rw (← c.before.before.within.ensures, c.before.if-within.true) c.is_tail.ensures)
-    (λ c. rw (← c.before.within.ensures, c.if-within.false)))
+    (λ c. rw (← c.within.ensures, c.if-within.true) c.is_tail.ensures)
+    (λ c. rw (← c.within.ensures, c.if-within.false)))

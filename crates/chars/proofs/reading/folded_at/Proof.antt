@@ -12,7 +12,7 @@ abbrev top : tie.Then-single_at → tie.Start
 top c = c.before.before.before
 
 single : (c : tie.Then-single_at) → single_at (top c).args.text.now (top c).args.at ≡ true
-single c = sym c.before.single_at.ensures ∙ c.if-single_at.true
+single c = sym c.single_at.ensures ∙ c.if-single_at.true
 
 pub folded_at_spec : {M : Type 1} → statement M
 folded_at_spec =
@@ -21,6 +21,6 @@ folded_at_spec =
     (λ c κs. search rules)
     (λ c κs. search rules)
     (λ c. omega (arith, single_is _ _ (single c.before.before)))
-    (λ c. rw c.before.byte_at.ensures (sym (single_stands _ _ (single c.before.before))))
+    (λ c. rw c.byte_at.ensures (sym (single_stands _ _ (single c.before.before))))
     (λ c κs. search rules)
     (λ c. c.any_folded_at.ensures))

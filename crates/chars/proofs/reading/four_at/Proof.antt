@@ -26,15 +26,15 @@ fourth r = r.before
 bytes : (c : tie.Then-ends_four)
     → let r = c.before in
     FourIn (top r).args.b (second r).byte_at-c.result (third r).byte_at-d.result (fourth r).byte_at-e.result
-bytes c = four_in _ _ _ _ _ _ (top c.before).requires.1 (sym c.before.ends_four.ensures ∙ c.if-ends_four.true)
+bytes c = four_in _ _ _ _ _ _ (top c.before).requires.1 (sym c.ends_four.ensures ∙ c.if-ends_four.true)
 
 returns : tie.Need-returns-then-ends_four
 unfolding char_by
 returns c =
     let r : Tested = c.before.before in
-    simp (← (second r).byte_at-c.ensures, ← (third r).byte_at-d.ensures, ← (fourth r).byte_at-e.ensures, ← r.ends_four.ensures, c.before.if-ends_four.true)
+    simp (← (second r).byte_at-c.ensures, ← (third r).byte_at-d.ensures, ← (fourth r).byte_at-e.ensures, ← r.ends_four.ensures, c.if-ends_four.true)
 
-returns-2 : tie.Need-returns-then-ends_four
+returns-2 : tie.Need-returns
 unfolding char_by
 returns-2 c =
     let r : Tested = c.before in

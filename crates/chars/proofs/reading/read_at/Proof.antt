@@ -25,7 +25,7 @@ abbrev at : Known → Place
 at r = (top r).args.at
 
 abbrev b : Known → ℕ
-b r = r.before.byte_at-b.result
+b r = r.byte_at-b.result
 
 -- the first byte starts what the arm says
 starts : (r : Known) (l : Lead) → r.lead_of.result ≡ l → lead_of (b r) ≡ l
@@ -34,7 +34,7 @@ starts r l e = sym r.lead_of.ensures ∙ e
 reads : (r : Known) (l : Lead) → r.lead_of.result ≡ l
     → char_by (at r) (b r) (byte_at (text r) (on_by 1 (at r))) (byte_at (text r) (on_by 2 (at r))) (byte_at (text r) (on_by 3 (at r))) l ≡ char_at (text r) (at r)
 reads r l e =
-    sym (stands_by _ _ _ l r.before.before.before.if-text-k.false r.before.before.if-k-ge65536.false r.before.byte_at-b.ensures (starts r l e))
+    sym (stands_by _ _ _ l r.if-text-k.false r.if-k-ge65536.false r.byte_at-b.ensures (starts r l e))
 
 pub read_at_spec : {M : Type 1} → statement M
 unfolding char_at char_by
@@ -43,20 +43,20 @@ read_at_spec =
     (tie.spec
     (λ c. search rules)
     (λ c. rw (le-leb _ _ c.if-text-k.true))
-    (λ c. rw (lt-leb _ _ c.before.if-text-k.false, le-leb _ _ c.if-k-ge65536.true))
+    (λ c. rw (lt-leb _ _ c.if-text-k.false, le-leb _ _ c.if-k-ge65536.true))
     (λ c κs. search rules)
     (λ c κs. search rules)
     (λ c. search rules)
     (λ c. search rules)
     (λ c. search rules)
-    (λ c κs. (search rules, starts c.before.before.before _ c.before.low-1.given.1))
+    (λ c κs. (search rules, starts c.before _ c.in-Two.is))
     (λ c. search rules)
-    (λ c κs. (search rules, starts c.before.before.before _ c.before.low-in-Three-1.given.1))
+    (λ c κs. (search rules, starts c.before _ c.in-Three.is))
     (λ c. search rules)
-    (λ c κs. (search rules, starts c.before.before.before _ c.before.low-in-Four-1.given.1))
+    (λ c κs. (search rules, starts c.before _ c.in-Four.is))
     (λ c. search rules)
-    (λ c. reads c.before.before.before _ c.before.enum_told-1.given.1)
-    (λ c. c.two_at.ensures ∙ reads c.before.before.before.before _ c.before.before.low-1.given.1)
-    (λ c. c.three_at.ensures ∙ reads c.before.before.before.before _ c.before.before.low-in-Three-1.given.1)
-    (λ c. c.four_at.ensures ∙ reads c.before.before.before.before _ c.before.before.low-in-Four-1.given.1)
-    (λ c. reads c.before.before _ c.enum_told-in-Never-1.given.1))
+    (λ c. reads c.before.before _ c.in-Alone.is)
+    (λ c. c.two_at.ensures ∙ reads c.before.before _ c.in-Two.is)
+    (λ c. c.three_at.ensures ∙ reads c.before.before _ c.in-Three.is)
+    (λ c. c.four_at.ensures ∙ reads c.before.before _ c.in-Four.is)
+    (λ c. reads c.before _ c.in-Never.is))

@@ -15,7 +15,7 @@ abbrev top : tie.Else-k-ge65536 → tie.Start
 top c = c.before.before.before
 
 inside : (c : tie.Else-k-ge65536) → (leb (length (top c).args.text.now) (top c).args.at.0 || leb cap (top c).args.at.0) ≡ false
-inside c = rw (lt-leb _ _ c.before.if-text-k.false, lt-leb _ _ c.if-k-ge65536.false)
+inside c = rw (lt-leb _ _ c.if-text-k.false, lt-leb _ _ c.if-k-ge65536.false)
 
 pub single_at_spec : {M : Type 1} → statement M
 unfolding single_at byte_at
@@ -24,8 +24,8 @@ single_at_spec =
     (tie.spec
     (λ c. search rules)
     (λ c. rw (le-leb _ _ c.if-text-k.true))
-    (λ c. rw (lt-leb _ _ c.before.if-text-k.false, le-leb _ _ c.if-k-ge65536.true))
+    (λ c. rw (lt-leb _ _ c.if-text-k.false, le-leb _ _ c.if-k-ge65536.true))
     (λ c. search rules)
     (λ c. rw (inside c.before.before, eq-eqb _ _ c.if-text-k-eq13.true))
     (λ c. search rules)
-    (λ c. rw (inside c.before.before.before, ne_eqb _ _ c.before.if-text-k-eq13.false)))
+    (λ c. rw (inside c.before.before.before, ne_eqb _ _ c.if-text-k-eq13.false)))

@@ -21,15 +21,15 @@ abbrev third : Tested → tie.After-byte_at-d
 third r = r.before
 
 bytes : (c : tie.Then-ends_three) → let r = c.before in ThreeIn (top r).args.b (second r).byte_at-c.result (third r).byte_at-d.result
-bytes c = three_in _ _ _ _ _ (top c.before).requires.1 (sym c.before.ends_three.ensures ∙ c.if-ends_three.true)
+bytes c = three_in _ _ _ _ _ (top c.before).requires.1 (sym c.ends_three.ensures ∙ c.if-ends_three.true)
 
 returns : tie.Need-returns-then-ends_three
 unfolding char_by
 returns c =
     let r : Tested = c.before.before in
-    simp (← (second r).byte_at-c.ensures, ← (third r).byte_at-d.ensures, ← r.ends_three.ensures, c.before.if-ends_three.true)
+    simp (← (second r).byte_at-c.ensures, ← (third r).byte_at-d.ensures, ← r.ends_three.ensures, c.if-ends_three.true)
 
-returns-2 : tie.Need-returns-then-ends_three
+returns-2 : tie.Need-returns
 unfolding char_by
 returns-2 c =
     let r : Tested = c.before in

@@ -18,15 +18,15 @@ abbrev second : Tested → tie.After-byte_at-c
 second r = r.before
 
 bytes : (c : tie.Then-within) → TwoIn (top c.before).args.b (second c.before).byte_at-c.result
-bytes c = two_in _ _ _ _ (top c.before).requires.1 (sym c.before.within.ensures ∙ c.if-within.true)
+bytes c = two_in _ _ _ _ (top c.before).requires.1 (sym c.within.ensures ∙ c.if-within.true)
 
 returns : tie.Need-returns-then-within
 unfolding char_by
 returns c =
     let r : Tested = c.before.before in
-    simp (← (second r).byte_at-c.ensures, ← r.within.ensures, c.before.if-within.true)
+    simp (← (second r).byte_at-c.ensures, ← r.within.ensures, c.if-within.true)
 
-returns-2 : tie.Need-returns-then-within
+returns-2 : tie.Need-returns
 unfolding char_by
 returns-2 c =
     let r : Tested = c.before in

@@ -37,5 +37,5 @@ has_spec =
     (λ c κs. search rules)
     (λ c. search rules)
     (λ c. search rules)
-    (λ c. rw c.half.ensures (bit _ _ c.before.if-b-lt128.true))
-    (λ c. rw (le-ltb c.before.args.b 64 (omega arith), le-ltb _ _ c.if-b-lt128.false)))
+    (λ c. rw c.half.ensures (bit _ _ c.if-b-lt128.true))
+    (λ c. rw (le-ltb c.args.b 64 (omega arith), le-ltb _ _ c.if-b-lt128.false)))

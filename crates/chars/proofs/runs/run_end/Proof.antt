@@ -31,19 +31,19 @@ ends s set p end k e f = sym (ap place (rw (← e) f))
 abbrev Turn : Type 0
 Turn = tie.At-loop-k invariant-loop decreases-loop
 
-end_is : (r : Turn) → r.before.before.limit-end.result ≡ min (length r.before.before.before.before.args.text.now) cap
-end_is r = r.before.before.limit-end.ensures
+end_is : (r : Turn) → r.limit-end.result ≡ min (length r.args.text.now) cap
+end_is r = r.limit-end.ensures
 
 returns : tie.Need-returns-then-not-has invariant-loop decreases-loop
 returns c =
     let r : Turn = c.before.before.before.before in
     ends _ _ _ _ _ (end_is r)
-    (r.loop-k.invariant.1 ∙ first_hit _ _ _ c.before.before.before.loop-k-test.true (rw (← c.before.has.ensures) c.if-not-has.true))
+    (r.loop-k.invariant.1 ∙ first_hit _ _ _ c.loop-k-test.true (rw (← c.has.ensures, c.if-not-has.true)))
 
 loop-again : tie.Need-loop-k-preserved invariant-loop decreases-loop
 loop-again c =
     let r : Turn = c.before.before.before.before in
-    (omega arith, r.loop-k.invariant.1 ∙ first_miss _ _ _ c.before.before.before.loop-k-test.true (rw (← c.before.has.ensures) c.if-not-has.false))
+    (omega arith, r.loop-k.invariant.1 ∙ first_miss _ _ _ c.loop-k-test.true (rw (← c.has.ensures, c.if-not-has.false)))
 
 pub run_end_spec : {M : Type 1} → statement M
 run_end_spec =
@@ -55,7 +55,7 @@ run_end_spec =
     (λ c. search rules)
     (λ c. (omega arith, refl))
     (λ c. omega (arith, end_is c.before.before))
-    (λ c. omega (arith, c.shared_slice_known-in-loop-k-1.given c.before.before.loop-k.k))
+    (λ c. omega (arith, c.shared_slice_known-in-loop-k-1.given c.loop-k.k))
     (λ c κs. search rules)
     (λ c. omega (arith, end_is c.before.before.before.before))
     returns
@@ -63,4 +63,4 @@ run_end_spec =
     (λ c. search rules)
     loop-again
     (λ c. omega (arith, end_is c.before))
-    (λ c. ends _ _ _ _ _ (end_is c.before) (c.before.loop-k.invariant.1 ∙ first_end _ _ _ c.loop-k-test.false)))
+    (λ c. ends _ _ _ _ _ (end_is c.before) (c.loop-k.invariant.1 ∙ first_end _ _ _ c.loop-k-test.false)))
