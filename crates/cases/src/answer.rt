@@ -1,14 +1,33 @@
-//! What the proved crates answer, as a line's numbers.
+//! What a call answers, as the numbers that a line holds: the three of every answer, three more by the call, and the cursor.
 use answers::{Refusal, Verdict};
-use cursors::Went;
-use listing::Listed;
-use names::Named;
-use recorded::{Answer, accepted};
-use steps::{Opened, Step};
-use strings::Decoded;
+use steps::Step;
+
+#[derive(Drop)]
+pub struct Answer {
+    pub number: u32,
+    pub position: u32,
+    pub detail: u32,
+    pub x: u32,
+    pub y: u32,
+    pub z: u32,
+    pub cursor: u32,
+}
 
 // The kind that stands for no token.
 const NO_KIND: u32 = 67;
+
+// An accepted call.
+pub(crate) fn accepted(x: u32, y: u32, z: u32, cursor: u32) -> Answer {
+    Answer {
+        number: 0,
+        position: 0,
+        detail: 0,
+        x,
+        y,
+        z,
+        cursor,
+    }
+}
 
 // A verdict with one number beside it.
 pub(crate) fn judged(verdict: Verdict, x: u32, cursor: u32) -> Answer {
@@ -24,19 +43,12 @@ pub(crate) fn judged(verdict: Verdict, x: u32, cursor: u32) -> Answer {
     }
 }
 
-fn refused(refusal: Refusal, cursor: u32) -> Answer {
+pub(crate) fn refused(refusal: Refusal, cursor: u32) -> Answer {
     judged(Verdict::Refused(refusal), 0, cursor)
 }
 
-pub(crate) fn opened(found: Opened) -> Answer {
-    match found {
-        Opened::At(at) => accepted(0, 0, 0, at.0),
-        Opened::Refused(refusal) => refused(refusal, 0),
-    }
-}
-
 // A step, with the place where it left the cursor.
-fn stepped(step: Step, cursor: u32) -> Answer {
+pub(crate) fn stepped(step: Step, cursor: u32) -> Answer {
     match step {
         Step::Token(kind, span) => accepted(kind.kind() as u32, span.start.0, span.end.0, cursor),
         Step::End => accepted(NO_KIND, 0, 0, cursor),
@@ -45,34 +57,24 @@ fn stepped(step: Step, cursor: u32) -> Answer {
     }
 }
 
-pub(crate) fn went(found: Went) -> Answer {
-    let step = found.step;
-    stepped(step, found.at)
-}
-
-// An identifier, by its place and its length.
-pub(crate) fn named(found: Named) -> Answer {
-    match found {
-        Named::Id(first, last) => accepted(
-            first.0,
-            std::num::wrapping_sub_u32(last.0, first.0),
-            0,
-            0,
-        ),
-        Named::Refused(refusal) => refused(refusal, 0),
+pub(crate) fn same_answer(a: Answer, b: Answer) -> bool {
+    if a.number != b.number {
+        return false;
     }
-}
-
-pub(crate) fn listed(found: Listed) -> Answer {
-    match found {
-        Listed::Count(count) => accepted(count, 0, 0, 0),
-        Listed::Refused(refusal) => refused(refusal, 0),
+    if a.position != b.position {
+        return false;
     }
-}
-
-pub(crate) fn decoded(found: Decoded) -> Answer {
-    match found {
-        Decoded::Value(count) => accepted(count, 0, 0, 0),
-        Decoded::Refused(refusal) => refused(refusal, 0),
+    if a.detail != b.detail {
+        return false;
     }
+    if a.x != b.x {
+        return false;
+    }
+    if a.y != b.y {
+        return false;
+    }
+    if a.z != b.z {
+        return false;
+    }
+    a.cursor == b.cursor
 }

@@ -1,0 +1,48 @@
+use Rattle.std.proofs.Common.{◌≤◌, length, rules}
+use Rattle.cases.proofs.reading.whole_lines.Statement.{statement}
+use Rattle.cases.proofs.reading.whole_lines.Tie as tie
+
+abbrev invariant-loop : tie.invariant-loop
+invariant-loop bytes end₀ end = end ≤ length bytes
+
+abbrev decreases-loop : tie.decreases-loop
+decreases-loop bytes end₀ end = end
+
+loop-holds : tie.Need-loop-init invariant-loop decreases-loop
+loop-holds c = search rules
+
+sub-if1 : tie.Need-overflow-sub-if1 invariant-loop decreases-loop
+sub-if1 c = search rules
+
+shared-slice-read-if1 : tie.Need-shared-slice-read-if1 invariant-loop decreases-loop
+shared-slice-read-if1 c = search rules
+
+returns : tie.Need-returns invariant-loop decreases-loop
+returns c = search rules
+
+sub-end : tie.Need-overflow-sub-end invariant-loop decreases-loop
+sub-end c = search rules
+
+loop-less : tie.Need-loop-smaller invariant-loop decreases-loop
+loop-less c = search rules
+
+loop-again : tie.Need-loop-preserved invariant-loop decreases-loop
+loop-again c = search rules
+
+returns-2 : tie.Need-returns-2 invariant-loop decreases-loop
+returns-2 c = search rules
+
+pub whole-lines-spec : {M : Type 1} → statement M
+whole-lines-spec =
+    tie.close
+    (tie.spec
+    invariant-loop
+    decreases-loop
+    loop-holds
+    sub-if1
+    shared-slice-read-if1
+    returns
+    sub-end
+    loop-less
+    loop-again
+    returns-2)
