@@ -16,7 +16,7 @@ use Rattle.kinds.specs.contracts.Token.{the_type}
 -- a kind's number is its place in the declaration
 kind_tag : (kind : Token) → tag_of the_type kind ≡ kind_of kind
 unfolding kind_of
-kind_tag kind = elim kind [
+kind_tag kind = elim kind as (λ k. tag_of the_type k ≡ kind_of k) [
   | Token.Whitespace ↦ refl
   | Token.Comment ↦ refl
   | Token.Equals ↦ refl

@@ -83,6 +83,7 @@ pub enum Token {
 
 impl Token {
     // A kind's number: blanks, comments, marks and strings here, the words behind them.
+    #[tactic(auto, unfolding(crate::specs::Kinds::kind_of))]
     pub fn kind(self) -> u8
         ensures { result ≡ kind_of self }
     {
@@ -112,6 +113,7 @@ impl Token {
     }
 
     // The words up to the result types.
+    #[tactic(auto, unfolding(crate::specs::Kinds::kind_of))]
     fn word_kind(self) -> u8
         requires { 19 < kind_of self }
         ensures { result ≡ kind_of self }
@@ -147,6 +149,7 @@ impl Token {
     }
 
     // The other words, identifiers and numbers.
+    #[tactic(auto, unfolding(crate::specs::Kinds::kind_of))]
     fn later_word_kind(self) -> u8
         requires { 44 < kind_of self }
         ensures { result ≡ kind_of self }
