@@ -84,7 +84,8 @@ class Steps:
                     parts = parts[length:]
                     break
             else:
-                out.append(self.steps.get(plain(parts[0]), parts[0]))
+                is_own = out[-1:] in (["args"], ["ranges"], ["new"])
+                out.append(parts[0] if is_own else self.steps.get(plain(parts[0]), parts[0]))
                 parts = parts[1:]
         return "." + ".".join(out)
 
@@ -202,4 +203,5 @@ def main():
                 print("turned", proof)
 
 
-main()
+if __name__ == "__main__":
+    main()

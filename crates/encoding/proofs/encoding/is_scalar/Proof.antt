@@ -5,11 +5,11 @@ use Rattle.chars.specs.Utf8.{is_scalar}
 use Rattle.encoding.proofs.encoding.is_scalar.Statement.{statement}
 use Rattle.encoding.proofs.encoding.is_scalar.Tie as tie
 
-pub is-scalar-spec : {M : Type 1} → statement M
+pub is_scalar_spec : {M : Type 1} → statement M
 unfolding is_scalar
-is-scalar-spec =
+is_scalar_spec =
     tie.close
     (tie.spec
     (λ c κs. search rules)
-    (λ c. rw (le-leb _ _ c.if1.true))
-    (λ c. rw (lt-leb _ _ c.before.if1.false) c.within.ensures))
+    (λ c. rw (le-leb _ _ c.if-c-le55295.true))
+    (λ c. rw (lt-leb _ _ c.if-c-le55295.false) c.within.ensures))

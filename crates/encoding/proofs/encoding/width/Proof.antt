@@ -7,7 +7,7 @@ pub width_spec : {M : Type 1} → statement M
 width_spec =
     tie.close
     (tie.spec
-    (λ c. rw (encode_one _ c.if1.true))
-    (λ c. rw (encode_two _ c.before.if1.false c.if2.true))
-    (λ c. rw (encode_three _ c.before.if2.false c.if3.true))
-    (λ c. rw (encode_four _ c.if3.false)))
+    (λ c. rw (encode_one _ c.if-c-le127.true))
+    (λ c. rw (encode_two _ c.if-c-le127.false c.if-c-le2047.true))
+    (λ c. rw (encode_three _ c.if-c-le2047.false c.if-c-le65535.true))
+    (λ c. rw (encode_four _ c.if-c-le65535.false)))

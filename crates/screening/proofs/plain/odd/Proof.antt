@@ -27,17 +27,17 @@ high b l = go (leb 0x7F b) refl
         let z = leb-false 0x7F b e in
         rw (within_yes 0x20 0x7E b l (omega arith))
 
-returns : tie.Need-returns
+returns : tie.Need-returns-then-b-eq9
 unfolding is_plain within
-returns c = rw c.if2.true
+returns c = rw c.if-b-eq9.true
 
-returns-2 : tie.Need-returns-2
+returns-2 : tie.Need-returns-then-b-eq10
 unfolding is_plain within
-returns-2 c = rw c.if3.true
+returns-2 c = rw c.if-b-eq10.true
 
-returns-3 : tie.Need-returns-3
+returns-3 : tie.Need-returns-then-b-lt32
 unfolding is_plain
-returns-3 c = rw (within_below 0x20 0x7E _ c.before.before.if1.true, ne_eqb _ _ c.before.if2.false, ne_eqb _ _ c.if3.false)
+returns-3 c = rw (within_below 0x20 0x7E _ c.if-b-lt32.true, ne_eqb _ _ c.if-b-eq9.false, ne_eqb _ _ c.if-b-eq10.false)
 
-pub odd-spec : {M : Type 1} → statement M
-odd-spec = tie.close (tie.spec returns returns-2 returns-3 (λ c. high _ c.if1.false))
+pub odd_spec : {M : Type 1} → statement M
+odd_spec = tie.close (tie.spec returns returns-2 returns-3 (λ c. high _ c.if-b-lt32.false))

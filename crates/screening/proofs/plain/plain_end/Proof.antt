@@ -21,15 +21,15 @@ record Upto (text : List ℕ) (x y z end k₀ k : ℕ) : Type 0 where
   most : k ≤ max end k₀
   rest : first (halts_at text x y z) k₀ (end - k₀) ≡ first (halts_at text x y z) k (end - k)
 
-abbrev invariant-loop : tie.invariant-loop
+abbrev invariant-loop : tie.invariant-loop-k
 invariant-loop text x y z end k₀ k = Upto text x y z end k₀ k
 
-abbrev decreases-loop : tie.decreases-loop
+abbrev decreases-loop : tie.decreases-loop-k
 decreases-loop text x y z end k₀ k = end - k
 
 -- the turn: the start, the test that is searched by, and the end
 abbrev Turn : Type 0
-Turn = tie.At-loop invariant-loop decreases-loop
+Turn = tie.At-loop-k invariant-loop decreases-loop
 
 abbrev top : Turn → tie.Start invariant-loop decreases-loop
 top c = c.before.before.before.before
@@ -38,47 +38,47 @@ abbrev test : Turn → ℕ → Bool
 test c = halts_at (top c).args.text.now (top c).args.x (top c).args.y (top c).args.z
 
 abbrev end : Turn → ℕ
-end c = c.before.before.limit.result
+end c = c.limit-end.result
 
 -- the answer, where the search from k on ends at m
-ends : (c : Turn) (m : ℕ) → first (test c) c.loop.k (end c - c.loop.k) ≡ m
+ends : (c : Turn) (m : ℕ) → first (test c) c.loop-k.k (end c - c.loop-k.k) ≡ m
     → place m ≡ plain_end (top c).args.text.now (top c).args.x (top c).args.y (top c).args.z (top c).args.at
 unfolding plain_end
-ends c m e = sym (ap place (rw (← c.loop.invariant.limit) (c.loop.invariant.rest ∙ e)))
+ends c m e = sym (ap place (rw (← c.loop-k.invariant.limit) (c.loop-k.invariant.rest ∙ e)))
 
-loop-holds : tie.Need-loop-init invariant-loop decreases-loop
-loop-holds c = record { limit = c.before.limit.ensures; most = omega arith; rest = refl }
+loop-holds : tie.Need-loop-k-init invariant-loop decreases-loop
+loop-holds c = record { limit = c.limit-end.ensures; most = omega arith; rest = refl }
 
-returns : tie.Need-returns invariant-loop decreases-loop
+returns : tie.Need-returns-then-stops invariant-loop decreases-loop
 returns c =
     let t : Turn = c.before.before.before.before in
-    ends t _ (first_hit _ _ _ (omega arith) (rw (← c.before.stops.ensures) c.if1.true))
+    ends t _ (first_hit _ _ _ (omega arith) (rw (← c.stops.ensures) c.if-stops.true))
 
-returns-2 : tie.Need-returns-2 invariant-loop decreases-loop
+returns-2 : tie.Need-returns-then-stop-k invariant-loop decreases-loop
 returns-2 c =
     let in-turn = c.before.before.before.before.before in
-    let found = c.before.stop-in.ensures in
-    ends in-turn.before _ (first_found _ 64 _ _ in-turn.loop-test.true (rw (← found) c.if2.true) ∙ sym found)
+    let found = c.stop_in-stop.ensures in
+    ends in-turn.before _ (first_found _ 64 _ _ in-turn.loop-k-test.true (rw (← found) c.if-stop-k.true) ∙ sym found)
 
-loop-again : tie.Need-loop-preserved invariant-loop decreases-loop
+loop-again : tie.Need-loop-k-preserved invariant-loop decreases-loop
 loop-again c =
     let in-turn = c.before.before.before.before.before in
     let t : Turn = in-turn.before in
-    let none : first (test t) t.loop.k 64 ≡ t.loop.k + 64 =
-    omega (arith, c.before.stop-in.ensures, first_le (test t) 64 t.loop.k) in
+    let none : first (test t) t.loop-k.k 64 ≡ t.loop-k.k + 64 =
+    omega (arith, c.stop_in-stop.ensures, first_le (test t) 64 t.loop-k.k) in
     record {
-      limit = t.loop.invariant.limit;
+      limit = t.loop-k.invariant.limit;
       most = omega arith;
-      rest = t.loop.invariant.rest ∙ rw none at (first_part (test t) 64 t.loop.k (end t) in-turn.loop-test.true);
+      rest = t.loop-k.invariant.rest ∙ rw none at (first_part (test t) 64 t.loop-k.k (end t) in-turn.loop-k-test.true);
     }
 
-cast-t17 : tie.Need-overflow-cast-t17 invariant-loop decreases-loop
+cast-t17 : tie.Need-overflow_cast-result-2 invariant-loop decreases-loop
 cast-t17 c =
     let t : Turn = c.before.before in
-    omega (arith, c.stop-near.ensures, first_le (test t) (end t - t.loop.k) t.loop.k)
+    omega (arith, c.stop_near.ensures, first_le (test t) (end t - t.loop-k.k) t.loop-k.k)
 
-pub plain-end-spec : {M : Type 1} → statement M
-plain-end-spec =
+pub plain_end_spec : {M : Type 1} → statement M
+plain_end_spec =
     tie.close
     (tie.spec
     invariant-loop
@@ -100,4 +100,4 @@ plain-end-spec =
     loop-again
     (λ c κs. search rules)
     cast-t17
-    (λ c. ends c.before.before _ (sym c.stop-near.ensures)))
+    (λ c. ends c.before.before _ (sym c.stop_near.ensures)))

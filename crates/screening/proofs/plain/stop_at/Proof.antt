@@ -3,10 +3,10 @@ use borrow.Author.Rules.{rules}
 use Rattle.screening.proofs.plain.stop_at.Statement.{statement}
 use Rattle.screening.proofs.plain.stop_at.Tie as tie
 
-pub stop-at-spec : {M : Type 1} → statement M
-stop-at-spec =
+pub stop_at_spec : {M : Type 1} → statement M
+stop_at_spec =
     tie.close
     (tie.spec
     (λ c κs. search rules)
-    (λ c. rw (← c.before.stops.ensures, c.if1.true))
-    (λ c. rw (← c.before.stops.ensures, c.if1.false)))
+    (λ c. rw (← c.stops.ensures, c.if-stops.true))
+    (λ c. rw (← c.stops.ensures, c.if-stops.false)))

@@ -23,17 +23,17 @@ in_range : (low high : ℕ) {x : ℕ} {v : Offence} → Rest (Unit {0}) singles 
 unfolding offence_of
 in_range low high {x} {v} r a b e = sym (in_match singles low high x r a b offences None v e)
 
-returns : tie.Need-returns
+returns : tie.Need-returns-in-329
 unfolding offence_of offences said within
-returns c = ⊎_elim (λ e. rw e) (⊎_elim (λ e. rw e) (⊎_elim (λ e. rw e) (λ e. rw e))) c.match.keys2
+returns c = ⊎_elim (λ e. rw e) (⊎_elim (λ e. rw e) (⊎_elim (λ e. rw e) (λ e. rw e))) c.in-329.is
 
-returns-15 : tie.Need-returns-15
+returns-15 : tie.Need-returns-in-9
 unfolding offence_of offences said within
-returns-15 c = rw c.match.keys1
+returns-15 c = rw c.in-9.is
 
-pub offence-of-spec : {M : Type 1} → statement M
+pub offence_of_spec : {M : Type 1} → statement M
 unfolding offences word is_key is_keys up down
-offence-of-spec =
+offence_of_spec =
     tie.close
     (tie.spec
     returns

@@ -10,19 +10,19 @@ use Rattle.screening.proofs.screening.sooner.Statement.{statement}
 use Rattle.screening.proofs.screening.sooner.Tie as tie
 
 -- what this character gets where all before were accepted
-this : (c : tie.After-offence-of) {o : Offence} → c.offence-of.result ≡ o
-    → let a = c.before.before.before.args in
+this : (c : tie.After-offence_of) {o : Offence} → c.offence_of.result ≡ o
+    → let a = c.args in
     screened_by o a.at a.c Accepted ≡ sooner a.so_far a.at a.c
 unfolding sooner first_of
-this c e = rw (c.before.enum_told.given.1, ← c.offence-of.ensures, e)
+this c e = rw (c.in-Accepted.is, ← c.offence_of.ensures, e)
 
-returns : tie.Need-returns
+returns : tie.Need-returns-in-Refused
 unfolding sooner first_of
-returns c = rw c.before.so_far.given.1
+returns c = rw c.in-Refused.is
 
-pub sooner-spec : {M : Type 1} → statement M
+pub sooner_spec : {M : Type 1} → statement M
 unfolding screened_by
-sooner-spec =
+sooner_spec =
     tie.close
     (tie.spec
     (λ c. search rules)
@@ -33,7 +33,7 @@ sooner-spec =
     (λ c. search rules)
     (λ c. search rules)
     returns
-    (λ c. this c.before.before c.enum-told2.given.1)
-    (λ c. this c.before.before c.enum-told3.given.1)
-    (λ c. this c.before.before c.enum-told4.given.1)
-    (λ c. this c.before.before c.enum-told5.given.1))
+    (λ c. this c.before c.in-None.is)
+    (λ c. this c.before c.in-Control.is)
+    (λ c. this c.before c.in-Deprecated.is)
+    (λ c. this c.before c.in-Forbidden.is))
