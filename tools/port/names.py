@@ -151,8 +151,8 @@ def led(text, steps):
             first = re.match(rf"\(?(?:(\w+) : )?(?:tie\.)?({WORD})", head[2])
             place = steps.at.get(need[1]) if need else takes.get(head[1])
             known = {}
-            target = re.search(rf"→ tie\.({WORD})$", line)
-            back = target[1] if target else None
+            target = re.search(rf"→ (?:tie\.)?({WORD})$", line)
+            back = alias.get(target[1], target[1]) if target else None
             name = head[1]
         if place:
             bound = re.match(rf"{WORD} (\w+) =", line)

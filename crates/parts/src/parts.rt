@@ -8,6 +8,7 @@ use crate::{Letter, Part, Step};
 use answers::{Place, Position, Refusal, Verdict};
 use chars::{AsciiSet, Read};
 
+#[tactic(auto, unfolding(crate::specs::Parts::letter_of, crate::specs::Parts::letters, terms::specs::Terms::said, terms::specs::Terms::within))]
 fn letter_of(c: u32) -> Letter
     ensures { result ≡ letter_of c }
 {

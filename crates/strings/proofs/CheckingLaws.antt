@@ -65,9 +65,9 @@ started_fair n b Never h = tt
 feed_fair : (n : ℕ) (t : Seen) (b : ℕ) → Fair t → Fair (feed n t b)
 unfolding feed
 feed_fair n Well b f = started_fair n b (lead_of b) (lawful b (lead_of b) refl)
-feed_fair n (PartMut start low high left) b f = go (within low high b) (eqb left 1) refl
+feed_fair n (Part start low high left) b f = go (within low high b) (eqb left 1) refl
   where
-    go : (t u : Bool) → eqb left 1 ≡ u → Fair (if t then (if u then Well else PartMut start 0x80 0xBF (left - 1)) else Ill start)
+    go : (t u : Bool) → eqb left 1 ≡ u → Fair (if t then (if u then Well else Part start 0x80 0xBF (left - 1)) else Ill start)
     go true true e = tt
     go true false e = let i = eqb-false left 1 e in (omega arith, omega arith, omega arith)
     go false u e = tt
@@ -88,11 +88,11 @@ module _ (g : List ℕ) where
 
   -- a sequence in progress at q: the byte there is none that it wants, is its last, or is one on the way
   module _ (start low high : ℕ) where
-    at_no : (q left : ℕ) → within low high (byte q) ≡ false → verdict (feeds q (PartMut start low high left) (drop q g)) ≡ ill_at start
+    at_no : (q left : ℕ) → within low high (byte q) ≡ false → verdict (feeds q (Part start low high left) (drop q g)) ≡ ill_at start
     unfolding feed verdict
     at_no q left e = go (leb (length g) q) refl
       where
-        go : (t : Bool) → leb (length g) q ≡ t → verdict (feeds q (PartMut start low high left) (drop q g)) ≡ ill_at start
+        go : (t : Bool) → leb (length g) q ≡ t → verdict (feeds q (Part start low high left) (drop q g)) ≡ ill_at start
         go true h = rw (drop_of_length-le g (leb-true _ _ h), feeds_none)
         go false h = rw (next q (q + 1) refl (leb-false _ _ h), feeds_cons, e, ill_stays (q + 1) start (drop (q + 1) g))
 
@@ -100,11 +100,11 @@ module _ (g : List ℕ) where
       inside : q < length g
       inside = byte_in g (place q) (let w = within_true low high (byte q) e in omega arith)
 
-      at_last : feeds q (PartMut start low high 1) (drop q g) ≡ feeds q' Well (drop q' g)
+      at_last : feeds q (Part start low high 1) (drop q g) ≡ feeds q' Well (drop q' g)
       unfolding feed
       at_last = rw (next q q' onto inside, feeds_cons, e, onto)
 
-      at_on : (k : ℕ) → eqb k 1 ≡ false → feeds q (PartMut start low high k) (drop q g) ≡ feeds q' (PartMut start 0x80 0xBF (k - 1)) (drop q' g)
+      at_on : (k : ℕ) → eqb k 1 ≡ false → feeds q (Part start low high k) (drop q g) ≡ feeds q' (Part start 0x80 0xBF (k - 1)) (drop q' g)
       unfolding feed
       at_on k i = rw (next q q' onto inside, feeds_cons, e, i, onto)
 
@@ -130,7 +130,7 @@ module _ (g : List ℕ) where
         go x false a = rw (begins _ e) (at_no p low high (p + 1) 1 a)
     step (Three low high) e = go _ (within low high (byte (p + 1))) (within 0x80 0xBF (byte (p + 2))) refl refl
       where
-        second : within low high (byte (p + 1)) ≡ true → feeds p Well (drop p g) ≡ feeds (p + 2) (PartMut p 0x80 0xBF 1) (drop (p + 2) g)
+        second : within low high (byte (p + 1)) ≡ true → feeds p Well (drop p g) ≡ feeds (p + 2) (Part p 0x80 0xBF 1) (drop (p + 2) g)
         second a = begins _ e ∙ at_on p low high (p + 1) (p + 2) (omega arith) (lawful _ _ e).2 a 2 refl
 
         go : (x : ℕ) (t u : Bool) → within low high (byte (p + 1)) ≡ t → within 0x80 0xBF (byte (p + 2)) ≡ u
@@ -141,11 +141,11 @@ module _ (g : List ℕ) where
     step (Four low high) e =
         go _ (within low high (byte (p + 1))) (within 0x80 0xBF (byte (p + 2))) (within 0x80 0xBF (byte (p + 3))) refl refl refl
       where
-        second : within low high (byte (p + 1)) ≡ true → feeds p Well (drop p g) ≡ feeds (p + 2) (PartMut p 0x80 0xBF 2) (drop (p + 2) g)
+        second : within low high (byte (p + 1)) ≡ true → feeds p Well (drop p g) ≡ feeds (p + 2) (Part p 0x80 0xBF 2) (drop (p + 2) g)
         second a = begins _ e ∙ at_on p low high (p + 1) (p + 2) (omega arith) (lawful _ _ e).2 a 3 refl
 
         third : within low high (byte (p + 1)) ≡ true → within 0x80 0xBF (byte (p + 2)) ≡ true
-            → feeds p Well (drop p g) ≡ feeds (p + 3) (PartMut p 0x80 0xBF 1) (drop (p + 3) g)
+            → feeds p Well (drop p g) ≡ feeds (p + 3) (Part p 0x80 0xBF 1) (drop (p + 3) g)
         third a b = second a ∙ at_on p 0x80 0xBF (p + 2) (p + 3) (omega arith) (omega arith) b 2 refl
 
         go : (x : ℕ) (t u v : Bool) → within low high (byte (p + 1)) ≡ t → within 0x80 0xBF (byte (p + 2)) ≡ u
@@ -214,11 +214,11 @@ module _ (n c : ℕ) (k : n < cap) (y : is_scalar c ≡ true) where
 
 -- in a sequence in progress
 module _ (n start low high left : ℕ) where
-  ends : (b : ℕ) (l : List ℕ) → within low high b ≡ false → feeds n (PartMut start low high left) (b ∷ l) ≡ Ill start
+  ends : (b : ℕ) (l : List ℕ) → within low high b ≡ false → feeds n (Part start low high left) (b ∷ l) ≡ Ill start
   unfolding feeds feed
   ends b l e = rw e (ill_stays (n + 1) start l)
 
-  broken : (c : ℕ) → 0x80 ≤ low → high ≤ 0xBF → feeds n (PartMut start low high left) (encode c) ≡ Ill start
+  broken : (c : ℕ) → 0x80 ≤ low → high ≤ 0xBF → feeds n (Part start low high left) (encode c) ≡ Ill start
   broken c f g =
       split 0x7F c (λ h. rw (encode_one c h) (ends _ _ (within_below low high _ (omega arith)))) (λ i.
       split 0x7FF c (λ h. rw (encode_two c i h) (ends _ _ (within_above low high _ (omega arith)))) (λ j.
@@ -229,19 +229,19 @@ module _ (n start low high left : ℕ) where
 pub passes : (n : ℕ) (t : Seen) (c : ℕ) → n < cap → is_scalar c ≡ true → Fair t → feeds n t (encode c) ≡ pass t
 unfolding pass
 passes n Well c k y f = well n c k y
-passes n (PartMut start low high left) c k y f = broken n start low high left c f.0 f.1
+passes n (Part start low high left) c k y f = broken n start low high left c f.0 f.1
 passes n (Ill start) c k y f = ill_stays n start (encode c)
 
 pub pass_twice : (t : Seen) → pass (pass t) ≡ pass t
 unfolding pass
 pass_twice Well = refl
-pass_twice (PartMut start low high left) = refl
+pass_twice (Part start low high left) = refl
 pass_twice (Ill start) = refl
 
 pub pass_fair : (t : Seen) → Fair t → Fair (pass t)
 unfolding pass
 pass_fair Well f = tt
-pass_fair (PartMut start low high left) f = tt
+pass_fair (Part start low high left) f = tt
 pass_fair (Ill start) f = tt
 
 -- what a turn adds, in the check's terms

@@ -5,11 +5,11 @@ use borrow.Author.Rules.{rules}
 use Rattle.classes.proofs.characters.is_keylike_continue.Statement.{statement}
 use Rattle.classes.proofs.characters.is_keylike_continue.Tie as tie
 
-pub is-keylike-continue-spec : {M : Type 1} → statement M
+pub is_keylike_continue_spec : {M : Type 1} → statement M
 unfolding keylike_continue
-is-keylike-continue-spec =
+is_keylike_continue_spec =
     tie.close
     (tie.spec
-    (λ c. rw (eq-eqb _ _ c.if1.true))
+    (λ c. rw (eq-eqb _ _ c.if-c-eq45.true))
     (λ c κs. search rules)
-    (λ c. rw (ne_eqb _ _ c.before.if1.false) c.xid-continue.ensures))
+    (λ c. rw (ne_eqb _ _ c.if-c-eq45.false) c.xid_continue.ensures))

@@ -5,12 +5,12 @@ use borrow.Author.Rules.{rules}
 use Rattle.classes.proofs.characters.is_keylike_start.Statement.{statement}
 use Rattle.classes.proofs.characters.is_keylike_start.Tie as tie
 
-pub is-keylike-start-spec : {M : Type 1} → statement M
+pub is_keylike_start_spec : {M : Type 1} → statement M
 unfolding keylike_start
-is-keylike-start-spec =
+is_keylike_start_spec =
     tie.close
     (tie.spec
-    (λ c. rw (eq-eqb _ _ c.if1.true))
-    (λ c. rw (ne_eqb _ _ c.before.if1.false, eq-eqb _ _ c.if2.true))
+    (λ c. rw (eq-eqb _ _ c.if-c-eq95.true))
+    (λ c. rw (ne_eqb _ _ c.if-c-eq95.false, eq-eqb _ _ c.if-c-eq45.true))
     (λ c κs. search rules)
-    (λ c. rw (ne_eqb _ _ c.before.before.if1.false, ne_eqb _ _ c.before.if2.false) c.xid-start.ensures))
+    (λ c. rw (ne_eqb _ _ c.if-c-eq95.false, ne_eqb _ _ c.if-c-eq45.false) c.xid_start.ensures))

@@ -25,13 +25,13 @@ start-in : (low high x : ℕ) (t : Bool) → Rest (Unit {0}) keys x → low ≤ 
 unfolding startsOn short_start
 start-in low high x t r p q e = sym (in_match keys low high x r p q short_starts false t e)
 
-returns : tie.Need-returns
+returns : tie.Need-returns-in-170
 unfolding short_start short_starts said within
-returns c = ⊎_elim (λ e. rw e) (⊎_elim (λ e. rw e) (λ e. rw e)) c.match.keys1
+returns c = ⊎_elim (λ e. rw e) (⊎_elim (λ e. rw e) (λ e. rw e)) c.in-170.is
 
-pub short-start-spec : {M : Type 1} → statement M
+pub short_start_spec : {M : Type 1} → statement M
 unfolding startsOn
-short-start-spec =
+short_start_spec =
     tie.close
     (tie.spec
     returns

@@ -5,11 +5,11 @@ use borrow.Author.Rules.{rules}
 use Rattle.classes.proofs.characters.xid_continue.Statement.{statement}
 use Rattle.classes.proofs.characters.xid_continue.Tie as tie
 
-pub xid-continue-spec : {M : Type 1} → statement M
-xid-continue-spec =
+pub xid_continue_spec : {M : Type 1} → statement M
+xid_continue_spec =
     tie.close
     (tie.spec
     (λ c κs. search rules)
-    (λ c. c.short-continue.ensures ∙ sym (continue_short _ c.before.if1.true))
+    (λ c. c.short_continue.ensures ∙ sym (continue_short _ c.if-c-le705.true))
     (λ c κs. search rules)
-    (λ c. c.searched-continue.ensures))
+    (λ c. c.searched_continue.ensures))

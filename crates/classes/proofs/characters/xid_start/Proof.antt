@@ -5,11 +5,11 @@ use borrow.Author.Rules.{rules}
 use Rattle.classes.proofs.characters.xid_start.Statement.{statement}
 use Rattle.classes.proofs.characters.xid_start.Tie as tie
 
-pub xid-start-spec : {M : Type 1} → statement M
-xid-start-spec =
+pub xid_start_spec : {M : Type 1} → statement M
+xid_start_spec =
     tie.close
     (tie.spec
     (λ c κs. search rules)
-    (λ c. c.short-start.ensures ∙ sym (start_short _ c.before.if1.true))
+    (λ c. c.short_start.ensures ∙ sym (start_short _ c.if-c-le705.true))
     (λ c κs. search rules)
-    (λ c. c.searched-start.ensures))
+    (λ c. c.searched_start.ensures))

@@ -14,20 +14,20 @@ record Between (lasts : List ℕ) (c low high : ℕ) : Type 0 where
   passed : (k : ℕ) → k < low → get_or lasts k 0 < c
   reached : (k : ℕ) → high ≤ k → k < length lasts → c ≤ get_or lasts k 0
 
-abbrev invariant-loop : tie.invariant-loop
+abbrev invariant-loop : tie.invariant-loop-low
 invariant-loop firsts lasts c low₀ high₀ low high = Between lasts c low high
 
-abbrev decreases-loop : tie.decreases-loop
+abbrev decreases-loop : tie.decreases-loop-low
 decreases-loop firsts lasts c low₀ high₀ low high = high - low
 
 -- the loop's turn, and the middle
 abbrev Turn : Type 0
-Turn = tie.At-loop invariant-loop decreases-loop
+Turn = tie.At-loop-low invariant-loop decreases-loop
 
 abbrev middle : Turn → ℕ
-middle r = r.loop.low + (r.loop.high - r.loop.low) / 2
+middle r = r.loop-low.low + (r.loop-low.high - r.loop-low.low) / 2
 
-loop-holds : tie.Need-loop-init invariant-loop decreases-loop
+loop-holds : tie.Need-loop-low-init invariant-loop decreases-loop
 loop-holds c = record {
   most = omega arith;
   inside = omega arith;
@@ -35,39 +35,39 @@ loop-holds c = record {
   reached = λ k h l. omega arith;
 }
 
-loop-again : tie.Need-loop-preserved invariant-loop decreases-loop
+loop-again : tie.Need-loop-low-preserved-then-lasts-middle invariant-loop decreases-loop
 loop-again c =
     let r : Turn = c.before.before.before in
     record {
       most = omega arith;
       inside = omega arith;
-      passed = λ k h. lt_of_le_of_lt (lasts_ascend _ _ r.before.requires k (middle r) (omega arith) (omega arith)) c.if1.true;
-      reached = r.loop.invariant.reached;
+      passed = λ k h. lt_of_le_of_lt (lasts_ascend _ _ r.requires k (middle r) (omega arith) (omega arith)) c.if-lasts-middle.true;
+      reached = r.loop-low.invariant.reached;
     }
 
-loop-again-2 : tie.Need-loop-preserved-2 invariant-loop decreases-loop
+loop-again-2 : tie.Need-loop-low-preserved invariant-loop decreases-loop
 loop-again-2 c =
     let r : Turn = c.before.before.before in
     record {
       most = omega arith;
       inside = omega arith;
-      passed = r.loop.invariant.passed;
-      reached = λ k h l. le_trans c.if1.false (lasts_ascend _ _ r.before.requires (middle r) k h l);
+      passed = r.loop-low.invariant.passed;
+      reached = λ k h l. le_trans c.if-lasts-middle.false (lasts_ascend _ _ r.requires (middle r) k h l);
     }
 
-returns : tie.Need-returns invariant-loop decreases-loop
+returns : tie.Need-returns-then-low-lasts invariant-loop decreases-loop
 returns c =
     let r : Turn = c.before.before.before in
-    found _ _ r.before.requires r.before.args.c r.loop.low (omega arith) r.loop.invariant.passed
-    (r.loop.invariant.reached _ (omega arith) (omega arith))
+    found _ _ r.requires r.args.c r.loop-low.low (omega arith) r.loop-low.invariant.passed
+    (r.loop-low.invariant.reached _ (omega arith) (omega arith))
 
-returns-2 : tie.Need-returns-2 invariant-loop decreases-loop
+returns-2 : tie.Need-returns-else-low-lasts invariant-loop decreases-loop
 returns-2 c =
     let r : Turn = c.before.before in
-    missing _ _ r.before.requires r.before.args.c (λ j l. r.loop.invariant.passed j (omega arith))
+    missing _ _ r.requires r.args.c (λ j l. r.loop-low.invariant.passed j (omega arith))
 
-pub in-ranges-spec : {M : Type 1} → statement M
-in-ranges-spec =
+pub in_ranges_spec : {M : Type 1} → statement M
+in_ranges_spec =
     tie.close
     (tie.spec
     invariant-loop
@@ -83,6 +83,6 @@ in-ranges-spec =
     (λ c. omega arith)
     loop-again-2
     (λ c. omega arith)
-    (λ c. omega (arith, c.before.before.before.before.requires.same))
+    (λ c. omega (arith, c.requires.same))
     returns
     returns-2)

@@ -7,20 +7,20 @@ use borrow.Author.Rules.{rules}
 use Rattle.classes.proofs.runs.continues.Statement.{statement}
 use Rattle.classes.proofs.runs.continues.Tie as tie
 
-abbrev top : tie.Else1 → tie.Start
+abbrev top : tie.Else-c-eq45 → tie.Start
 top c = c.before.before.before
 
-returns-3 : tie.Need-returns-3
+returns-3 : tie.Need-returns
 unfolding keylike_continue xid_continue
-returns-3 c = rw (ne_eqb _ _ c.before.before.if1.false, ← (top c.before.before).requires.ranges) c.in-ranges.ensures
+returns-3 c = rw (ne_eqb _ _ c.if-c-eq45.false, ← (top c.before.before).requires.ranges) c.in_ranges.ensures
 
-pub continues-spec : {M : Type 1} → statement M
+pub continues_spec : {M : Type 1} → statement M
 unfolding keylike_continue
-continues-spec =
+continues_spec =
     tie.close
     (tie.spec
-    (λ c. rw (eq-eqb _ _ c.if1.true))
+    (λ c. rw (eq-eqb _ _ c.if-c-eq45.true))
     (λ c κs. search rules)
-    (λ c. rw (ne_eqb _ _ c.before.before.if1.false) (c.short-continue.ensures ∙ sym (continue_short _ c.before.if2.true)))
+    (λ c. rw (ne_eqb _ _ c.if-c-eq45.false) (c.short_continue.ensures ∙ sym (continue_short _ c.if-c-le705.true)))
     (λ c κs. (top c.before).requires.searchable)
     returns-3)

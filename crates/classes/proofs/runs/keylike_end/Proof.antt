@@ -7,10 +7,10 @@ use borrow.Author.Rules.{rules}
 use Rattle.classes.proofs.runs.keylike_end.Statement.{statement}
 use Rattle.classes.proofs.runs.keylike_end.Tie as tie
 
-lent-end-requires : tie.Need-lent-end-requires
+lent-end-requires : tie.Need-lent_end-requires
 unfolding paired xid_continues
 lent-end-requires c κs = record { searchable = record { same = refl; order = continues_ordered }; ranges = refl }
 
-pub keylike-end-spec : {M : Type 1} → statement M
-keylike-end-spec =
-    tie.close (tie.spec (λ c. search rules) (λ c. search rules) lent-end-requires (λ c. c.lent-end.ensures))
+pub keylike_end_spec : {M : Type 1} → statement M
+keylike_end_spec =
+    tie.close (tie.spec (λ c. search rules) (λ c. search rules) lent-end-requires (λ c. c.lent_end.ensures))

@@ -14,52 +14,52 @@ use borrow.Author.Rules.{rules}
 use Rattle.classes.proofs.runs.lent_end.Statement.{statement}
 use Rattle.classes.proofs.runs.lent_end.Tie as tie
 
-abbrev invariant-loop : tie.invariant-loop
+abbrev invariant-loop : tie.invariant-loop-at
 invariant-loop firsts lasts text at₀ at = keylike_end (folded_from text at₀) ≡ keylike_end (folded_from text at)
 
-abbrev decreases-loop : tie.decreases-loop
+abbrev decreases-loop : tie.decreases-loop-at
 decreases-loop firsts lasts text at₀ at = length text - at.0
 
 -- where what stands at `at` has been read: the start, and the loop's turn
 abbrev Seen : Type 0
-Seen = tie.After-folded-at invariant-loop decreases-loop
+Seen = tie.After-folded_at invariant-loop decreases-loop
 
 abbrev top : Seen → tie.Start invariant-loop decreases-loop
 top r = r.before.before.before.before.before
 
-abbrev turn : Seen → tie.At-loop invariant-loop decreases-loop
+abbrev turn : Seen → tie.At-loop-at invariant-loop decreases-loop
 turn r = r.before
 
-reads : (r : Seen) (x : Read) → r.folded-at.result ≡ x → folded_at (top r).args.text.now (turn r).loop.at ≡ x
-reads r x e = sym r.folded-at.ensures ∙ e
+reads : (r : Seen) (x : Read) → r.folded_at.result-1 ≡ x → folded_at (top r).args.text.now (turn r).loop-at.at ≡ x
+reads r x e = sym r.folded_at.ensures ∙ e
 
-stands : (c : tie.After-c invariant-loop decreases-loop)
+stands : (c : tie.In-Char invariant-loop decreases-loop)
     → let r = c.before.before in
-    folded_at (top r).args.text.now (turn r).loop.at ≡ Char c.c.given.0.0 c.c.given.0.1.0
-stands c = reads c.before.before _ c.c.given.1
+    folded_at (top r).args.text.now (turn r).loop-at.at ≡ Char c.in-Char.c c.in-Char.next
+stands c = reads c.before _ c.in-Char.is
 
-returns : tie.Need-returns invariant-loop decreases-loop
+returns : tie.Need-returns-in-End invariant-loop decreases-loop
 returns c =
-    let r : Seen = c.before.before in
-    sym ((turn r).loop.invariant ∙ keylike_end_lem _ _ (reads r _ c.enum_told.given.1))
+    let r : Seen = c.before in
+    sym ((turn r).loop-at.invariant ∙ keylike_end_lem _ _ (reads r _ c.in-End.is))
 
-returns-2 : tie.Need-returns-2 invariant-loop decreases-loop
+returns-2 : tie.Need-returns-in-Ill invariant-loop decreases-loop
 returns-2 c =
-    let r : Seen = c.before.before.before.before in
-    sym ((turn r).loop.invariant ∙ keylike_ill _ _ _ (reads r _ c.before.before.ill.given.1))
+    let r : Seen = c.before.before in
+    sym ((turn r).loop-at.invariant ∙ keylike_ill _ _ _ (reads r _ c.in-Ill.is))
 
-returns-3 : tie.Need-returns-3 invariant-loop decreases-loop
+returns-3 : tie.Need-returns-then-not-continues invariant-loop decreases-loop
 returns-3 c =
     let h = c.before.before.before in
-    sym ((turn h.before.before).loop.inv ∙ keylike_stops _ _ _ _ (stands h) (sym c.before.continues.ensures ∙ not-true _ c.if1.true))
+    sym ((turn h.before.before).loop-at.inv ∙ keylike_stops _ _ _ _ (stands h) (sym c.continues.ensures ∙ not-true _ c.if-not-continues.true))
 
-loop-again : tie.Need-loop-preserved invariant-loop decreases-loop
+loop-again : tie.Need-loop-at-preserved invariant-loop decreases-loop
 loop-again c =
     let h = c.before.before.before in
-    (turn h.before.before).loop.inv ∙ keylike_on _ _ _ _ (stands h) (sym c.before.continues.ensures ∙ not-false _ c.if1.false)
+    (turn h.before.before).loop-at.inv ∙ keylike_on _ _ _ _ (stands h) (sym c.continues.ensures ∙ not-false _ c.if-not-continues.false)
 
-pub lent-end-spec : {M : Type 1} → statement M
-lent-end-spec =
+pub lent_end_spec : {M : Type 1} → statement M
+lent_end_spec =
     tie.close
     (tie.spec
     invariant-loop
@@ -71,7 +71,7 @@ lent-end-spec =
     (λ c. search rules)
     returns-2
     (λ c. search rules)
-    (λ c κs. (top c.before.before.before).pre)
+    (λ c κs. (top c.before).pre)
     returns-3
-    (λ c. omega (arith, folded_onward _ _ _ _ (stands c.before.before.before)))
+    (λ c. omega (arith, folded_onward _ _ _ _ (stands c.before.before)))
     loop-again)

@@ -4,9 +4,9 @@ use Rattle.parts.specs.Parts.{step_by}
 use Rattle.parts.proofs.parts.at_upper.Statement.{statement}
 use Rattle.parts.proofs.parts.at_upper.Tie as tie
 
-pub at-upper-spec : {M : Type 1} → statement M
+pub at_upper_spec : {M : Type 1} → statement M
 unfolding step_by
-at-upper-spec =
+at_upper_spec =
     tie.close
     (tie.spec
     (λ c. search rules)
@@ -14,8 +14,8 @@ at-upper-spec =
     (λ c. search rules)
     (λ c. search rules)
     (λ c. search rules)
-    (λ c. rw c.enum_told.given.1)
-    (λ c. rw c.enum-told2.given.1)
-    (λ c. rw c.enum-told3.given.1)
-    (λ c. rw c.enum-told4.given.1)
-    (λ c. rw c.enum-told5.given.1))
+    (λ c. rw c.in-First.is)
+    (λ c. rw c.in-Next.is)
+    (λ c. rw c.in-Digits.is)
+    (λ c. rw c.in-Upper.is)
+    (λ c. rw c.in-Lower.is))

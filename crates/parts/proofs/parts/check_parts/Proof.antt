@@ -21,16 +21,16 @@ use Rattle.parts.proofs.PartLaws.{part_passes, parts_ended, parts_end, parts_ill
 use Rattle.parts.proofs.parts.check_parts.Statement.{statement}
 use Rattle.parts.proofs.parts.check_parts.Tie as tie
 
-abbrev invariant-loop : tie.invariant-loop
+abbrev invariant-loop : tie.invariant-loop-end
 invariant-loop text start end at₀ part₀ at part =
     parts_from start end Part.First (chars_from text at₀) ≡ parts_from start end part (chars_from text at)
 
-abbrev decreases-loop : tie.decreases-loop
+abbrev decreases-loop : tie.decreases-loop-end
 decreases-loop text start end at₀ part₀ at part = length text - at.0
 
 -- behind the bytes that stay in the part
 abbrev Behind : Type 0
-Behind = tie.After-run-end invariant-loop decreases-loop
+Behind = tie.After-run_end-here invariant-loop decreases-loop
 
 abbrev top : Behind → tie.Start invariant-loop decreases-loop
 top c = c.before.before.before.before
@@ -49,71 +49,71 @@ abbrev whole : Behind → Verdict
 whole c = parts_from (start c) (end c) Part.First (chars_from (text c) (top c).args.from)
 
 abbrev left : Behind → Verdict
-left c = parts_from (start c) (end c) c.before.before.loop.part (chars_from (text c) c.run_end.result)
+left c = parts_from (start c) (end c) c.loop-end.part (chars_from (text c) c.run_end-here.result)
 
 behind : (c : Behind) → whole c ≡ left c
-behind c = c.before.before.loop.invariant ∙ part_passes _ _ _ _ _ ∙ simp (c.run_end.ensures, c.before.staying.ensures)
+behind c = c.loop-end.invariant ∙ part_passes _ _ _ _ _ ∙ simp (c.run_end-here.ensures, c.staying.ensures)
 
-beyond : (c : Behind) → c.before.before.loop.at.0 ≤ c.run_end.result.0
-beyond c = rw c.run_end.ensures (run_beyond _ _ _)
+beyond : (c : Behind) → c.loop-end.at.0 ≤ c.run_end-here.result.0
+beyond c = rw c.run_end-here.ensures (run_beyond _ _ _)
 
 -- where the text has been read
 abbrev Seen : Type 0
-Seen = tie.After-read-at invariant-loop decreases-loop
+Seen = tie.After-read_at invariant-loop decreases-loop
 
 abbrev run : Seen → Behind
 run c = c.before.before.before.before
 
-stands : (c : Seen) (x : Read) → c.read_at.result ≡ x → char_at (text (run c)) (run c).run_end.result ≡ x
+stands : (c : Seen) (x : Read) → c.read_at.result ≡ x → char_at (text (run c)) (run c).run_end-here.result ≡ x
 stands c x e = sym c.read_at.ensures ∙ e
 
 -- where the character that stands there has been judged
 abbrev Judged : Type 0
-Judged = tie.After-step-by invariant-loop decreases-loop
+Judged = tie.After-step_by invariant-loop decreases-loop
 
 abbrev seen : Judged → Seen
-seen c = c.before.before.before.before
+seen c = c.before.before
 
 abbrev char : Judged → ℕ
-char c = c.before.before.c.given.0.0
+char c = c.in-Char.c
 
 abbrev next : Judged → Place
-next c = c.before.before.c.given.0.1.0
+next c = c.in-Char.next
 
-stands_char : (c : Judged) → char_at (text (run (seen c))) (run (seen c)).run_end.result ≡ Char (char c) (next c)
-stands_char c = stands (seen c) _ c.before.before.c.given.1
+stands_char : (c : Judged) → char_at (text (run (seen c))) (run (seen c)).run_end-here.result ≡ Char (char c) (next c)
+stands_char c = stands (seen c) _ c.in-Char.is
 
 judged : (c : Judged) (x : Step) → c.step_by.result ≡ x
     → let r = run (seen c) in
     whole r ≡ stepped x (start r) (char c) (λ part. parts_from (start r) (end r) part (chars_from (text r) (next c)))
 judged c x e =
     behind (run (seen c))
-    ∙ parts_char _ _ _ _ _ (seen c).before.if1.false _ _ (stands_char c)
+    ∙ parts_char _ _ _ _ _ (seen c).before.if-end-here.false _ _ (stands_char c)
     ∙ rw (sym c.step_by.ensures ∙ e)
 
-returns : tie.Need-returns invariant-loop decreases-loop
+returns : tie.Need-returns-then-end-here invariant-loop decreases-loop
 returns c =
     let r : Behind = c.before.before.before.before in
-    c.Ended-by.ensures ∙ sym (behind r ∙ parts_ended _ _ _ _ _ c.before.if1.true)
+    c.ended_by.ensures ∙ sym (behind r ∙ parts_ended _ _ _ _ _ c.if-end-here.true)
 
-returns-2 : tie.Need-returns-2 invariant-loop decreases-loop
+returns-2 : tie.Need-returns-in-End invariant-loop decreases-loop
 returns-2 c =
-    let s : Seen = c.before.before.before in
-    c.ended-by2.ensures ∙ sym (behind (run s) ∙ parts_end _ _ _ _ _ (stands s _ c.before.enum_told.given.1))
+    let s : Seen = c.before.before in
+    c.ended_by-in-End.ensures ∙ sym (behind (run s) ∙ parts_end _ _ _ _ _ (stands s _ c.in-End.is))
 
-returns-3 : tie.Need-returns-3 invariant-loop decreases-loop
+returns-3 : tie.Need-returns-in-Ill invariant-loop decreases-loop
 returns-3 c =
-    let s : Seen = c.before.before.before in
-    sym (behind (run s) ∙ parts_ill _ _ _ _ _ s.before.if1.false _ (stands s _ c.before.ill.given.1))
+    let s : Seen = c.before in
+    sym (behind (run s) ∙ parts_ill _ _ _ _ _ s.if-end-here.false _ (stands s _ c.in-Ill.is))
 
-loop-less : tie.Need-loop-smaller invariant-loop decreases-loop
+loop-less : tie.Need-loop-end-smaller invariant-loop decreases-loop
 loop-less c =
-    let j : Judged = c.before.before.before in
+    let j : Judged = c.before in
     omega (arith, onward _ _ _ _ (stands_char j), beyond (run (seen j)))
 
-pub check-parts-spec : {M : Type 1} → statement M
+pub check_parts_spec : {M : Type 1} → statement M
 unfolding stepped
-check-parts-spec =
+check_parts_spec =
     tie.close
     (tie.spec
     invariant-loop
@@ -133,8 +133,8 @@ check-parts-spec =
     (λ c κs. search rules)
     (λ c. search rules)
     loop-less
-    (λ c. judged c.before.before.before _ c.before.onward.given.1)
+    (λ c. judged c.before _ c.in-On.is)
     (λ c. search rules)
-    (λ c. sym (judged c.before.before _ c.enum-told2.given.1))
+    (λ c. sym (judged c.before _ c.in-Empty.is))
     (λ c. search rules)
-    (λ c. sym (judged c.before.before _ c.enum-told3.given.1)))
+    (λ c. sym (judged c.before _ c.in-Bad.is)))

@@ -7,12 +7,12 @@ use Rattle.parts.proofs.PartLaws.{other_bad}
 use Rattle.parts.proofs.parts.step_by.Statement.{statement}
 use Rattle.parts.proofs.parts.step_by.Tie as tie
 
-by-letter : (c : tie.After-letter-of) (l : Letter) → c.letter-of.result ≡ l
-    → step_by c.before.args.part l ≡ step_by c.before.args.part (letter_of c.before.args.c)
-by-letter c l e = rw (sym e ∙ c.letter-of.ensures)
+by-letter : (c : tie.After-letter_of) (l : Letter) → c.letter_of.result ≡ l
+    → step_by c.args.part l ≡ step_by c.args.part (letter_of c.args.c)
+by-letter c l e = rw (sym e ∙ c.letter_of.ensures)
 
-pub step-by-spec : {M : Type 1} → statement M
-step-by-spec =
+pub step_by_spec : {M : Type 1} → statement M
+step_by_spec =
     tie.close
     (tie.spec
     (λ c κs. search rules)
@@ -25,8 +25,8 @@ step-by-spec =
     (λ c. search rules)
     (λ c κs. search rules)
     (λ c. search rules)
-    (λ c. c.at-dash.ensures ∙ by-letter c.before.before.before _ c.before.enum_told.given.1)
-    (λ c. c.at-digit.ensures ∙ by-letter c.before.before.before _ c.before.enum-told2.given.1)
-    (λ c. c.at-upper.ensures ∙ by-letter c.before.before.before _ c.before.enum-told3.given.1)
-    (λ c. c.at-lower.ensures ∙ by-letter c.before.before.before _ c.before.enum-told4.given.1)
-    (λ c. sym (other_bad _) ∙ by-letter c.before.before _ c.enum-told5.given.1))
+    (λ c. c.at_dash.ensures ∙ by-letter c.before.before _ c.in-Dash.is)
+    (λ c. c.at_digit.ensures ∙ by-letter c.before.before _ c.in-Digit.is)
+    (λ c. c.at_upper.ensures ∙ by-letter c.before.before _ c.in-Upper.is)
+    (λ c. c.at_lower.ensures ∙ by-letter c.before.before _ c.in-Lower.is)
+    (λ c. sym (other_bad _) ∙ by-letter c.before _ c.in-Other.is))

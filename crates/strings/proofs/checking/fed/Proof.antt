@@ -7,32 +7,32 @@ use Rattle.strings.proofs.checking.fed.Statement.{statement}
 use Rattle.strings.proofs.checking.fed.Tie as tie
 
 -- the last byte that a sequence wants, or one on the way
-returns : tie.Need-returns
+returns : tie.Need-returns-then-left-eq1
 unfolding feed
 returns c =
     let w = c.before.before in
-    rw (w.before.before.seen.given.1, ← w.within.ensures, c.before.if1.true, eq-eqb _ _ c.if2.true)
+    rw (w.in-Part.is, ← w.within.ensures, c.if-within.true, eq-eqb _ _ c.if-left-eq1.true)
 
-returns-2 : tie.Need-returns-2
+returns-2 : tie.Need-returns-then-within
 unfolding feed
 returns-2 c =
     let w = c.before.before in
-    rw (w.before.before.seen.given.1, ← w.within.ensures, c.before.if1.true, ne_eqb _ _ c.if2.false)
+    rw (w.in-Part.is, ← w.within.ensures, c.if-within.true, ne_eqb _ _ c.if-left-eq1.false)
 
-sub-t12 : tie.Need-overflow-sub-t12
+sub-t12 : tie.Need-overflow_sub-result
 sub-t12 c =
     let p = c.before.before.before.before in
-    let fair = rw p.seen.given.1 at p.before.before.requires in
+    let fair = rw p.in-Part.is at p.requires in
     omega arith
 
 -- one that it does not want
-returns-4 : tie.Need-returns-4
+returns-4 : tie.Need-returns-else-within
 unfolding feed
-returns-4 c = rw (c.before.before.before.seen.given.1, ← c.before.within.ensures, c.if1.false)
+returns-4 c = rw (c.in-Part.is, ← c.within.ensures, c.if-within.false)
 
-pub fed-spec : {M : Type 1} → statement M
+pub fed_spec : {M : Type 1} → statement M
 unfolding feed
-fed-spec =
+fed_spec =
     tie.close
     (tie.spec
     (λ c. search rules)
@@ -43,6 +43,6 @@ fed-spec =
     sub-t12
     returns-2
     (λ c. search rules)
-    (λ c. rw c.before.enum_told.given.1 c.started.ensures)
+    (λ c. rw c.in-Well.is c.started.ensures)
     returns-4
-    (λ c. rw c.before.seen2.given.1))
+    (λ c. rw c.in-Ill.is))

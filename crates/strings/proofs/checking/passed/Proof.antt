@@ -4,14 +4,14 @@ use Rattle.strings.specs.inner.Checking.{pass}
 use Rattle.strings.proofs.checking.passed.Statement.{statement}
 use Rattle.strings.proofs.checking.passed.Tie as tie
 
-pub passed-spec : {M : Type 1} → statement M
+pub passed_spec : {M : Type 1} → statement M
 unfolding pass
-passed-spec =
+passed_spec =
     tie.close
     (tie.spec
     (λ c. search rules)
     (λ c. search rules)
     (λ c. search rules)
-    (λ c. rw c.enum_told.given.1)
-    (λ c. rw c.before.seen.given.1)
-    (λ c. rw c.before.seen2.given.1))
+    (λ c. rw c.in-Well.is)
+    (λ c. rw c.in-Part.is)
+    (λ c. rw c.in-Ill.is))

@@ -4,9 +4,9 @@ use Rattle.strings.specs.inner.Checking.{took}
 use Rattle.strings.proofs.checking.took.Statement.{statement}
 use Rattle.strings.proofs.checking.took.Tie as tie
 
-pub took-spec : {M : Type 1} → statement M
+pub took_spec : {M : Type 1} → statement M
 unfolding took
-took-spec =
+took_spec =
     tie.close
     (tie.spec
     (λ c. search rules)
@@ -14,6 +14,6 @@ took-spec =
     (λ c κs. search rules)
     (λ c. search rules)
     (λ c κs. search rules)
-    (λ c. rw c.enum_told.given.1)
-    (λ c. rw c.before.before.more.given.1 c.fed.ensures)
-    (λ c. rw c.before.enum-told2.given.1 c.passed.ensures))
+    (λ c. rw c.in-Nothing.is)
+    (λ c. rw c.in-One.is c.fed.ensures)
+    (λ c. rw c.in-Whole.is c.passed.ensures))

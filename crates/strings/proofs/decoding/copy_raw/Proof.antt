@@ -12,60 +12,60 @@ use Rattle.strings.proofs.WritingLaws.{Copied, copied_none, copied_length, copie
 use Rattle.strings.proofs.decoding.copy_raw.Statement.{statement}
 use Rattle.strings.proofs.decoding.copy_raw.Tie as tie
 
-abbrev invariant-loop : tie.invariant-loop
+abbrev invariant-loop : tie.invariant-loop-k
 invariant-loop text value₀ n start k₀ value k = Copied text (place start) n value₀ k value
 
-abbrev decreases-loop : tie.decreases-loop
+abbrev decreases-loop : tie.decreases-loop-k
 decreases-loop text value₀ n start k₀ value k = length text - k
 
 -- the turn: the start; the buffer keeps its length
 abbrev Turn : Type 0
-Turn = tie.At-loop invariant-loop decreases-loop
+Turn = tie.At-loop-k invariant-loop decreases-loop
 
 abbrev top : Turn → tie.Start invariant-loop decreases-loop
 top c = c.before.before
 
-long : (c : Turn) → length c.loop.value ≡ length (top c).args.value.now
-long c = copied_length _ _ _ _ _ _ c.loop.invariant (top c).requires
+long : (c : Turn) → length c.loop-k.value ≡ length (top c).args.value.now
+long c = copied_length _ _ _ _ _ _ c.loop-k.invariant (top c).requires
 
 -- where the byte is no mark: the turn; there is room for it
 abbrev Bare : Type 0
-Bare = tie.Else2 invariant-loop decreases-loop
+Bare = tie.Else-b-eq92 invariant-loop decreases-loop
 
 abbrev turn : Bare → Turn
 turn c = c.before.before.before.before
 
-bare : (c : Bare) → is_mark (get_or (top (turn c)).args.text.now (turn c).loop.k 0) ≡ false
+bare : (c : Bare) → is_mark (get_or (top (turn c)).args.text.now (turn c).loop-k.k 0) ≡ false
 unfolding is_mark
-bare c = rw (ne_eqb _ _ c.before.if1.false, ne_eqb _ _ c.if2.false)
+bare c = rw (ne_eqb _ _ c.if-b-eq34.false, ne_eqb _ _ c.if-b-eq92.false)
 
 room : (c : Bare)
     → let t = turn c in
-    (top t).args.n + (t.loop.k - (top t).args.at.0) < length (top t).args.value.now
+    (top t).args.n + (t.loop-k.k - (top t).args.at.0) < length (top t).args.value.now
 room c =
     let t : Turn = turn c in
-    copied_next _ _ _ _ _ _ t.loop.inv (top t).pre c.before.before.before.loop-test.true (bare c)
+    copied_next _ _ _ _ _ _ t.loop-k.inv (top t).pre c.loop-k-test.true (bare c)
 
-returns : tie.Need-returns invariant-loop decreases-loop
+returns : tie.Need-returns-then-b-eq34 invariant-loop decreases-loop
 unfolding is_mark
 returns c =
     let in-turn = c.before.before in
-    copied_mark _ _ _ _ _ _ in-turn.before.loop.invariant in-turn.loop-test.true (rw (eq-eqb _ _ c.if1.true))
+    copied_mark _ _ _ _ _ _ in-turn.loop-k.invariant in-turn.loop-k-test.true (rw (eq-eqb _ _ c.if-b-eq34.true))
 
-returns-2 : tie.Need-returns-2 invariant-loop decreases-loop
+returns-2 : tie.Need-returns-then-b-eq92 invariant-loop decreases-loop
 unfolding is_mark
 returns-2 c =
     let in-turn = c.before.before.before in
-    copied_mark _ _ _ _ _ _ in-turn.before.loop.invariant in-turn.loop-test.true
-    (rw (ne_eqb _ _ c.before.if1.false, eq-eqb _ _ c.if2.true))
+    copied_mark _ _ _ _ _ _ in-turn.loop-k.invariant in-turn.loop-k-test.true
+    (rw (ne_eqb _ _ c.if-b-eq34.false, eq-eqb _ _ c.if-b-eq92.true))
 
-loop-again : tie.Need-loop-preserved invariant-loop decreases-loop
+loop-again : tie.Need-loop-k-preserved invariant-loop decreases-loop
 loop-again c =
     let t : Turn = turn c in
-    copied_on _ _ _ _ _ _ t.loop.inv (top t).pre c.before.before.before.loop-test.true (bare c)
+    copied_on _ _ _ _ _ _ t.loop-k.inv (top t).pre c.loop-k-test.true (bare c)
 
-pub copy-raw-spec : {M : Type 1} → statement M
-copy-raw-spec =
+pub copy_raw_spec : {M : Type 1} → statement M
+copy_raw_spec =
     tie.close
     (tie.spec
     invariant-loop
@@ -87,4 +87,4 @@ copy-raw-spec =
     loop-again
     (λ c. search rules)
     (λ c. long c.before)
-    (λ c. copied_end _ _ _ _ _ _ c.before.loop.invariant c.loop-test.false))
+    (λ c. copied_end _ _ _ _ _ _ c.loop-k.invariant c.loop-k-test.false))

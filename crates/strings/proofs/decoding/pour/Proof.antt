@@ -15,33 +15,33 @@ use Rattle.strings.proofs.PouringLaws.{poured_copy, poured_fits, poured_put, pou
 use Rattle.strings.proofs.decoding.pour.Statement.{statement}
 use Rattle.strings.proofs.decoding.pour.Tie as tie
 
-abbrev invariant-loop : tie.invariant-loop
+abbrev invariant-loop : tie.invariant-loop-more
 invariant-loop text offset value₀ at₀ n₀ value at n = Poured text offset at₀ value₀ value at n
 
-abbrev decreases-loop : tie.decreases-loop
+abbrev decreases-loop : tie.decreases-loop-more
 decreases-loop text offset value₀ at₀ n₀ value at n = length text - at.0
 
 -- where the raw characters from here on are copied: the start, the turn, the place behind them, the count with them, and what holds then
 abbrev Copied : Type 0
-Copied = tie.After-copy-raw invariant-loop decreases-loop
+Copied = tie.After-copy_raw-run invariant-loop decreases-loop
 
-abbrev turn : Copied → tie.At-loop invariant-loop decreases-loop
+abbrev turn : Copied → tie.At-loop-more invariant-loop decreases-loop
 turn c = c.before.before
 
 abbrev top : Copied → tie.Start invariant-loop decreases-loop
 top c = (turn c).before.before.before
 
 abbrev behind : Copied → Place
-behind c = on_by c.copy-raw.result (turn c).loop.at
+behind c = on_by c.copy_raw-run.result (turn c).loop-more.at
 
 abbrev count : Copied → ℕ
-count c = (turn c).loop.n + c.copy-raw.result
+count c = (turn c).loop-more.n + c.copy_raw-run.result
 
 abbrev Holds : Copied → List ℕ → Place → ℕ → Type 0
 Holds c = Poured (top c).args.text.now (top c).args.offset (top c).args.start (top c).args.value.now
 
-raw : (c : Copied) → Holds c c.copy-raw.new.1.1.0 (behind c) (count c)
-raw c = poured_copy _ _ _ _ (top c).requires _ _ _ (turn c).loop.invariant _ _ c.copy-raw.ensures
+raw : (c : Copied) → Holds c c.copy_raw-run.new.1.1.0 (behind c) (count c)
+raw c = poured_copy _ _ _ _ (top c).requires _ _ _ (turn c).loop-more.invariant _ _ c.copy_raw-run.ensures
 
 -- the cap keeps the sums small
 capped : (c : Copied) → (behind c).0 < cap
@@ -49,63 +49,63 @@ capped c = poured_capped _ _ _ _ (top c).requires _ _ _ (raw c)
 
 -- where the element behind them is known
 abbrev Known : Type 0
-Known = tie.After-element-at invariant-loop decreases-loop
+Known = tie.After-element_at invariant-loop decreases-loop
 
 abbrev copied : Known → Copied
 copied c = c.before.before.before.before
 
 -- where it adds something, and that is stored
-adds : (c : tie.After-more invariant-loop decreases-loop)
+adds : (c : tie.In-Adds invariant-loop decreases-loop)
     → let r = copied c.before.before in
-    Leads (top r).args.text.now (top r).args.offset Plain (behind r) (Adds c.more.given.0.0 c.more.given.0.1.0)
-adds c = rw c.more.given.1 at c.before.before.element-at.ensures
+    Leads (top r).args.text.now (top r).args.offset Plain (behind r) (Adds c.in-Adds.more c.in-Adds.next)
+adds c = rw c.in-Adds.is at c.element_at.ensures
 
-more : (c : tie.After-put invariant-loop decreases-loop)
+more : (c : tie.After-put-n invariant-loop decreases-loop)
     → let m = c.before.before.before in
     let r = copied m.before.before in
-    Holds r c.put.new.0 m.more.given.0.1.0 (count r + c.put.result)
+    Holds r c.put-n.new.0 m.in-Adds.next (count r + c.put-n.result)
 more c =
     let m = c.before.before.before in
     let r : Copied = copied m.before.before in
-    poured_put _ _ _ _ (top r).pre _ _ _ (raw r) _ _ (adds m) _ _ c.put.ensures
+    poured_put _ _ _ _ (top r).pre _ _ _ (raw r) _ _ (adds m) _ _ c.put-n.ensures
 
-put-requires : tie.Need-put-requires invariant-loop decreases-loop
+put-requires : tie.Need-put-n-requires invariant-loop decreases-loop
 put-requires c κs =
     let m = c.before.before in
     let r : Copied = copied m.before.before in
     ((adds m).2, poured_fits _ _ _ _ (top r).pre _ _ _ (raw r) _ _ (adds m))
 
-add-n : tie.Need-overflow-add-n invariant-loop decreases-loop
+add-n : tie.Need-overflow_add-n invariant-loop decreases-loop
 add-n c =
     let r : Copied = c.before.before.before in
     omega (arith, (raw r).ranges, (raw r).long, (top r).well-formed)
 
-add-n-2 : tie.Need-overflow-add-n-2 invariant-loop decreases-loop
+add-n-2 : tie.Need-overflow_add-n-in-Adds invariant-loop decreases-loop
 add-n-2 c =
     let p = c.before.before in
     let r : Copied = copied p.before.before.before.before.before in
     omega (arith, (more p).ranges, (more p).long, (top r).good)
 
-returns : tie.Need-returns invariant-loop decreases-loop
+returns : tie.Need-returns-in-Close invariant-loop decreases-loop
 returns c =
-    let k : Known = c.before.before in
+    let k : Known = c.before in
     let r : Copied = copied k in
-    poured_close _ _ _ _ (top r).pre _ _ _ (raw r) _ (rw c.enum_told.given.1 at k.element-at.ensures)
+    poured_close _ _ _ _ (top r).pre _ _ _ (raw r) _ (rw c.in-Close.is at k.element_at.ensures)
 
-returns-2 : tie.Need-returns-2 invariant-loop decreases-loop
+returns-2 : tie.Need-returns-in-Fail invariant-loop decreases-loop
 returns-2 c =
-    let k : Known = c.before.before in
+    let k : Known = c.before in
     let r : Copied = copied k in
-    absurd (poured_fail _ _ _ _ (top r).pre _ _ _ (raw r) _ (rw c.enum-told2.given.1 at k.element-at.ensures))
+    absurd (poured_fail _ _ _ _ (top r).pre _ _ _ (raw r) _ (rw c.in-Fail.is at k.element_at.ensures))
 
-pub pour-spec : {M : Type 1} → statement M
-pour-spec =
+pub pour_spec : {M : Type 1} → statement M
+pour_spec =
     tie.close
     (tie.spec
     invariant-loop
     decreases-loop
     (λ c. poured_none _ _ _ _)
-    (λ c κs. poured_room _ _ _ _ c.before.before.before.before.requires _ _ _ c.before.loop.invariant)
+    (λ c κs. poured_room _ _ _ _ c.requires _ _ _ c.loop-more.invariant)
     (λ c. omega (arith, capped c.before.before))
     (λ c. omega (arith, capped c.before.before.before))
     add-n
@@ -113,11 +113,11 @@ pour-spec =
     (λ c. search rules)
     put-requires
     add-n-2
-    (λ c. omega (arith, (adds c.before.before.before.before.before).0))
+    (λ c. omega (arith, (adds c.before.before.before.before).0))
     (λ c. more c.before.before)
     (λ c. search rules)
-    (λ c. (raw (copied c.before.before)).long)
+    (λ c. (raw (copied c.before)).long)
     returns
     (λ c. search rules)
-    (λ c. (raw (copied c.before.before)).long)
+    (λ c. (raw (copied c.before)).long)
     returns-2)

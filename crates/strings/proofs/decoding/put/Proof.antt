@@ -15,17 +15,17 @@ use Rattle.strings.proofs.decoding.put.Tie as tie
 abbrev Asked : tie.Start → More → Type 0
 Asked c m = Proper m × (c.args.n + length (added m) ≤ length c.args.value.now)
 
-one : (c : tie.After-more) → Asked c.before.before.before (One c.more.given.0.0)
-one c = rw c.more.given.1 at c.before.before.before.requires
+one : (c : tie.In-One) → Asked c.before.before.before (One c.in-One.b)
+one c = rw c.in-One.is at c.requires
 
-whole : (c : tie.After-more2) → Asked c.before.before.before (Whole c.more2.given.0.0)
-whole c = rw c.more2.given.1 at c.before.before.before.requires
+whole : (c : tie.In-Whole) → Asked c.before.before.before (Whole c.in-Whole.c)
+whole c = rw c.in-Whole.is at c.requires
 
-returns-3 : tie.Need-returns-3
+returns-3 : tie.Need-returns-in-Whole
 unfolding added
 returns-3 c =
     let w = c.before.before.before.before.before in
-    rw w.more2.given.1 (stored_whole _ _ _ (whole w).0 (whole w).1 _ _ c.before.before.encode.ensures)
+    rw w.in-Whole.is (stored_whole _ _ _ (whole w).0 (whole w).1 _ _ c.encode.ensures)
 
 pub put_spec : {M : Type 1} → statement M
 unfolding added
@@ -34,15 +34,15 @@ put_spec =
     (tie.spec
     (λ c. search rules)
     (λ c. search rules)
-    (λ c. omega (arith, (one c.before).0))
-    (λ c. omega (arith, (one c.before).1))
+    (λ c. omega (arith, (one c).0))
+    (λ c. omega (arith, (one c).1))
     (λ c. search rules)
     (λ c. search rules)
     (λ c. search rules)
     (λ c. search rules)
     (λ c κs. search rules)
-    (λ c. rw c.enum_told.given.1 (stored_none _ _))
+    (λ c. rw c.in-Nothing.is (stored_none _ _))
     (λ c. search rules)
-    (λ c. rw c.before.more.given.1 (stored_one _ _ _ (omega (arith, (one c.before).1))))
+    (λ c. rw c.in-One.is (stored_one _ _ _ (omega (arith, (one c).1))))
     (λ c. search rules)
     returns-3)

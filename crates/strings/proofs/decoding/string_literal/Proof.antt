@@ -14,33 +14,33 @@ use Rattle.strings.proofs.decoding.string_literal.Statement.{statement}
 use Rattle.strings.proofs.decoding.string_literal.Tie as tie
 
 -- the text passes
-abbrev top : tie.After-enum-told → tie.Start
-top c = c.before.before.before.before.before
+abbrev top : tie.In-Accepted → tie.Start
+top c = c.before.before.before.before
 
-passes : (c : tie.After-enum-told) → text_verdict (top c).args.offset (length (top c).args.text.now) ≡ Accepted
-passes c = sym c.before.before.check-text.ensures ∙ c.enum_told.given.1
+passes : (c : tie.In-Accepted) → text_verdict (top c).args.offset (length (top c).args.text.now) ≡ Accepted
+passes c = sym c.check_text.ensures ∙ c.in-Accepted.is
 
 -- and the span spells a value
-abbrev accepted : tie.After-n → tie.After-enum-told
-accepted c = c.before.before.before
+abbrev accepted : tie.In-Value → tie.In-Accepted
+accepted c = c.before.before
 
-value : (c : tie.After-n)
+value : (c : tie.In-Value)
     → let a = (top (accepted c)).args in
-    measured (spelling a.text.now a.offset a.span) ≡ Value c.n.given.0.0
-value c = sym c.before.before.measure.ensures ∙ c.n.given.1
+    measured (spelling a.text.now a.offset a.span) ≡ Value c.in-Value.n
+value c = sym c.measure.ensures ∙ c.in-Value.is
 
-returns : tie.Need-returns
+returns : tie.Need-returns-then-value-n
 returns c =
     let n = c.before.before in
-    sym (decoded_short _ _ _ _ (passes (accepted n)) _ (value n) c.if1.true)
+    sym (decoded_short _ _ _ _ (passes (accepted n)) _ (value n) c.if-value-n.true)
 
-sub-t18 : tie.Need-overflow-sub-t18
+sub-t18 : tie.Need-overflow_sub-span
 sub-t18 c =
     let n = c.before.before.before in
     let a = accepted n in
     (spelled _ _ _ (top a).args.value.now (passes a) _ (value n)).placed
 
-add-t19 : tie.Need-overflow-add-t19
+add-t19 : tie.Need-overflow_add-span
 add-t19 c =
     let n = c.before.before.before in
     let a = accepted n in
@@ -50,24 +50,24 @@ pour-requires : tie.Need-pour-requires
 pour-requires c κs =
     let n = c.before.before.before.before in
     let a = accepted n in
-    room _ _ _ (top a).args.value.now (passes a) _ (value n) c.before.before.if1.false
+    room _ _ _ (top a).args.value.now (passes a) _ (value n) c.if-value-n.false
 
-returns-2 : tie.Need-returns-2
-returns-2 c = sym (decoded_refused _ _ _ _ _ (sym c.before.before.before.check-text.ensures ∙ c.before.refusal.given.1))
+returns-2 : tie.Need-returns-in-Refused
+returns-2 c = sym (decoded_refused _ _ _ _ _ (sym c.check_text.ensures ∙ c.in-Refused.is))
 
-returns-3 : tie.Need-returns-3
+returns-3 : tie.Need-returns-in-Refused-measure
 returns-3 c =
     let m = c.before.before.before in
-    sym (decoded_nothing _ _ _ _ (passes m.before) _ (sym m.measure.ensures ∙ c.before.refusal2.given.1))
+    sym (decoded_nothing _ _ _ _ (passes m.before) _ (sym m.measure.ensures ∙ c.in-Refused-measure.is))
 
-returns-4 : tie.Need-returns-4
+returns-4 : tie.Need-returns-else-value-n
 returns-4 c =
     let r = c.before.before.before.before.before in
     let n = r.before.before in
-    rw c.before.before.pour.ensures (sym (decoded_value _ _ _ _ (passes (accepted n)) _ (value n) r.if1.false))
+    rw c.pour.ensures (sym (decoded_value _ _ _ _ (passes (accepted n)) _ (value n) r.if-value-n.false))
 
-pub string-literal-spec : {M : Type 1} → statement M
-string-literal-spec =
+pub string_literal_spec : {M : Type 1} → statement M
+string_literal_spec =
     tie.close
     (tie.spec
     (λ c κs. search rules)

@@ -10,25 +10,25 @@ use Rattle.strings.specs.inner.Walking.{is_bare, bare_end}
 use Rattle.strings.proofs.rule.bare_end.Statement.{statement}
 use Rattle.strings.proofs.rule.bare_end.Tie as tie
 
-abbrev invariant-loop : tie.invariant-loop
+abbrev invariant-loop : tie.invariant-loop-k
 invariant-loop text from end k₀ k = bare_end text from end ≡ first (λ j. not (is_bare (get_or text j 0))) k (end - k)
 
-abbrev decreases-loop : tie.decreases-loop
+abbrev decreases-loop : tie.decreases-loop-k
 decreases-loop text from end k₀ k = end - k
 
-returns : tie.Need-returns invariant-loop decreases-loop
+returns : tie.Need-returns-then-not-is_bare invariant-loop decreases-loop
 returns c =
     let in-turn = c.before.before.before in
-    sym (in-turn.before.loop.invariant ∙ first_hit _ _ _ in-turn.loop-test.true (rw (← c.before.is-bare.ensures) c.if1.true))
+    sym (in-turn.loop-k.invariant ∙ first_hit _ _ _ in-turn.loop-k-test.true (rw (← c.is_bare.ensures) c.if-not-is_bare.true))
 
-loop-again : tie.Need-loop-preserved invariant-loop decreases-loop
+loop-again : tie.Need-loop-k-preserved invariant-loop decreases-loop
 loop-again c =
     let in-turn = c.before.before.before in
-    in-turn.before.loop.invariant ∙ first_miss _ _ _ in-turn.loop-test.true (rw (← c.before.is-bare.ensures) c.if1.false)
+    in-turn.loop-k.invariant ∙ first_miss _ _ _ in-turn.loop-k-test.true (rw (← c.is_bare.ensures) c.if-not-is_bare.false)
 
-pub bare-end-spec : {M : Type 1} → statement M
+pub bare_end_spec : {M : Type 1} → statement M
 unfolding bare_end
-bare-end-spec =
+bare_end_spec =
     tie.close
     (tie.spec
     invariant-loop
@@ -40,4 +40,4 @@ bare-end-spec =
     (λ c. search rules)
     (λ c. search rules)
     loop-again
-    (λ c. sym (c.before.loop.invariant ∙ first_end _ _ _ c.loop-test.false)))
+    (λ c. sym (c.loop-k.invariant ∙ first_end _ _ _ c.loop-k-test.false)))

@@ -12,18 +12,18 @@ use Rattle.strings.proofs.rule.expect_any_char.Statement.{statement}
 use Rattle.strings.proofs.rule.expect_any_char.Tie as tie
 
 -- one byte is the character
-stands : (c : tie.Then1)
-    → let a = c.before.before.before.args in
-    folded_at a.text.now a.at ≡ Char c.before.ascii-at.result (on_by 1 a.at)
-stands c = ascii_stands _ _ _ (sym c.before.ascii-at.ensures) c.if1.true
+stands : (c : tie.Then-b-lt128)
+    → let a = c.args in
+    folded_at a.text.now a.at ≡ Char c.ascii_at-b.result (on_by 1 a.at)
+stands c = ascii_stands _ _ _ (sym c.ascii_at-b.ensures) c.if-b-lt128.true
 
-returns-2 : tie.Need-returns-2
+returns-2 : tie.Need-returns-in-End
 unfolding expected_at expected_of
-returns-2 c = rw (← c.before.before.before.folded-at.ensures, c.before.enum_told.given.1, ← c.in_map.ensures)
+returns-2 c = rw (← c.folded_at.ensures, c.in-End.is, ← c.in_map.ensures)
 
-pub expect-any-char-spec : {M : Type 1} → statement M
+pub expect_any_char_spec : {M : Type 1} → statement M
 unfolding expected_at expected_of
-expect-any-char-spec =
+expect_any_char_spec =
     tie.close
     (tie.spec
     (λ c κs. search rules)
@@ -35,5 +35,5 @@ expect-any-char-spec =
     (λ c. search rules)
     (λ c. search rules)
     returns-2
-    (λ c. rw (← c.before.before.before.folded-at.ensures, c.before.ill.given.1))
-    (λ c. rw (← c.before.before.before.folded-at.ensures, c.before.c.given.1)))
+    (λ c. rw (← c.folded_at.ensures, c.in-Ill.is))
+    (λ c. rw (← c.folded_at.ensures, c.in-Char.is)))

@@ -5,20 +5,20 @@ use Rattle.strings.specs.inner.Walking.{is_bare}
 use Rattle.strings.proofs.rule.is_bare.Statement.{statement}
 use Rattle.strings.proofs.rule.is_bare.Tie as tie
 
-returns-3 : tie.Need-returns-3
+returns-3 : tie.Need-returns-then-b-eq34
 unfolding is_bare
-returns-3 c = rw (within_yes 0x20 0x7E _ c.before.before.if1.false c.before.if2.false, eq-eqb _ _ c.if3.true)
+returns-3 c = rw (within_yes 0x20 0x7E _ c.if-b-lt32.false c.if-b-gt126.false, eq-eqb _ _ c.if-b-eq34.true)
 
-returns-4 : tie.Need-returns-4
+returns-4 : tie.Need-returns
 unfolding is_bare
-returns-4 c = rw (within_yes 0x20 0x7E _ c.before.before.if1.false c.before.if2.false, ne_eqb _ _ c.if3.false)
+returns-4 c = rw (within_yes 0x20 0x7E _ c.if-b-lt32.false c.if-b-gt126.false, ne_eqb _ _ c.if-b-eq34.false)
 
-pub is-bare-spec : {M : Type 1} → statement M
+pub is_bare_spec : {M : Type 1} → statement M
 unfolding is_bare
-is-bare-spec =
+is_bare_spec =
     tie.close
     (tie.spec
-    (λ c. rw (within_below 0x20 0x7E _ c.if1.true))
-    (λ c. rw (within_above 0x20 0x7E _ c.if2.true))
+    (λ c. rw (within_below 0x20 0x7E _ c.if-b-lt32.true))
+    (λ c. rw (within_above 0x20 0x7E _ c.if-b-gt126.true))
     returns-3
     returns-4)

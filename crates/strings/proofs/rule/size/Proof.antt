@@ -6,16 +6,16 @@ use Rattle.strings.specs.Strings.{added}
 use Rattle.strings.proofs.rule.size.Statement.{statement}
 use Rattle.strings.proofs.rule.size.Tie as tie
 
-pub size-spec : {M : Type 1} → statement M
+pub size_spec : {M : Type 1} → statement M
 unfolding added
-size-spec =
+size_spec =
     tie.close
     (tie.spec
     (λ c. search rules)
     (λ c. search rules)
     (λ c. search rules)
     (λ c κs. search rules)
-    (λ c. omega (arith, c.width.ensures, encode_most c.before.before.more.given.0.0))
-    (λ c. rw c.enum_told.given.1)
-    (λ c. rw c.enum-told2.given.1)
-    (λ c. rw c.before.before.more.given.1 c.width.ensures))
+    (λ c. omega (arith, c.width.ensures, encode_most c.in-Whole.c))
+    (λ c. rw c.in-Nothing.is)
+    (λ c. rw c.in-One.is)
+    (λ c. rw c.in-Whole.is c.width.ensures))

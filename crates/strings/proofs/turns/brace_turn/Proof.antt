@@ -4,7 +4,7 @@ use Rattle.strings.specs.Strings.{brace_turn}
 use Rattle.strings.proofs.turns.brace_turn.Statement.{statement}
 use Rattle.strings.proofs.turns.brace_turn.Tie as tie
 
-pub brace-turn-spec : {M : Type 1} → statement M
+pub brace_turn_spec : {M : Type 1} → statement M
 unfolding brace_turn
-brace-turn-spec =
-    tie.close (tie.spec (λ c. rw (eq-eqb _ _ c.if1.true)) (λ c. rw (ne_eqb _ _ c.if1.false)))
+brace_turn_spec =
+    tie.close (tie.spec (λ c. rw (eq-eqb _ _ c.if-c-eq123.true)) (λ c. rw (ne_eqb _ _ c.if-c-eq123.false)))

@@ -5,11 +5,11 @@ use Rattle.strings.specs.Strings.{first_turn}
 use Rattle.strings.proofs.turns.first_turn.Statement.{statement}
 use Rattle.strings.proofs.turns.first_turn.Tie as tie
 
-pub first-turn-spec : {M : Type 1} → statement M
+pub first_turn_spec : {M : Type 1} → statement M
 unfolding first_turn
-first-turn-spec =
+first_turn_spec =
     tie.close
     (tie.spec
     (λ c κs. search rules)
-    (λ c. rw (← c.before.to-hex.ensures, lt-ltb _ _ c.if1.true))
-    (λ c. rw (← c.before.to-hex.ensures, le-ltb _ _ c.if1.false)))
+    (λ c. rw (← c.to_hex-digit.ensures, lt-ltb _ _ c.if-digit-lt16.true))
+    (λ c. rw (← c.to_hex-digit.ensures, le-ltb _ _ c.if-digit-lt16.false)))

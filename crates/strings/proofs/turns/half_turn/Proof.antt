@@ -5,13 +5,13 @@ use Rattle.strings.specs.Strings.{half_turn}
 use Rattle.strings.proofs.turns.half_turn.Statement.{statement}
 use Rattle.strings.proofs.turns.half_turn.Tie as tie
 
-pub half-turn-spec : {M : Type 1} → statement M
+pub half_turn_spec : {M : Type 1} → statement M
 unfolding half_turn
-half-turn-spec =
+half_turn_spec =
     tie.close
     (tie.spec
     (λ c κs. search rules)
     (λ c. search rules)
     (λ c. search rules)
-    (λ c. rw (← c.before.to-hex.ensures, lt-ltb _ _ c.if1.true))
-    (λ c. rw (← c.before.to-hex.ensures, le-ltb _ _ c.if1.false)))
+    (λ c. rw (← c.to_hex-digit.ensures, lt-ltb _ _ c.if-digit-lt16.true))
+    (λ c. rw (← c.to_hex-digit.ensures, le-ltb _ _ c.if-digit-lt16.false)))

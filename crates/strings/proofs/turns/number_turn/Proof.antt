@@ -8,54 +8,54 @@ use Rattle.strings.proofs.turns.number_turn.Statement.{statement}
 use Rattle.strings.proofs.turns.number_turn.Tie as tie
 
 -- a digit
-returns-2 : tie.Need-returns-2
+returns-2 : tie.Need-returns-then-n-le268435455
 unfolding number_turn
 returns-2 c =
     let past = c.before.before in
-    rw (ne_eqb _ _ past.before.if1.false, ← past.to-hex.ensures, lt-ltb _ _ c.before.if2.true)
-    (rw (le-leb (past.before.before.args.n * 16 + past.to-hex.result) 0xFFFFFFFF (omega arith)))
+    rw (ne_eqb _ _ past.if-c-eq95.false, ← past.to_hex-digit.ensures, lt-ltb _ _ c.if-digit-lt16.true)
+    (rw (le-leb (past.args.n * 16 + past.to_hex-digit.result) 0xFFFFFFFF (omega arith)))
 
-returns-3 : tie.Need-returns-3
+returns-3 : tie.Need-returns-then-digit-lt16
 unfolding number_turn
 returns-3 c =
     let past = c.before.before in
-    rw (ne_eqb _ _ past.before.if1.false, ← past.to-hex.ensures, lt-ltb _ _ c.before.if2.true)
-    (rw (lt-leb (past.before.before.args.n * 16 + past.to-hex.result) 0xFFFFFFFF (omega arith)))
+    rw (ne_eqb _ _ past.if-c-eq95.false, ← past.to_hex-digit.ensures, lt-ltb _ _ c.if-digit-lt16.true)
+    (rw (lt-leb (past.args.n * 16 + past.to_hex-digit.result) 0xFFFFFFFF (omega arith)))
 
 -- none, and what ends the number
-returns-4 : tie.Need-returns-4
+returns-4 : tie.Need-returns-then-lone
 unfolding number_turn
 returns-4 c =
     let past = c.before.before in
-    rw (ne_eqb _ _ past.before.if1.false, ← past.to-hex.ensures, le-ltb _ _ c.before.if2.false, c.if4.true)
+    rw (ne_eqb _ _ past.if-c-eq95.false, ← past.to_hex-digit.ensures, le-ltb _ _ c.if-digit-lt16.false, c.if-lone.true)
 
-returns-5 : tie.Need-returns-5
+returns-5 : tie.Need-returns-then-c-eq125
 unfolding number_turn
 returns-5 c =
     let past = c.before.before.before in
-    rw (ne_eqb _ _ past.before.before.before.if1.false, ← past.before.before.to-hex.ensures, le-ltb _ _ past.before.if2.false, past.if4.false)
-    (rw (← c.before.before.is-scalar.ensures, c.before.if5.true, eq-eqb _ _ c.if6.true))
+    rw (ne_eqb _ _ past.if-c-eq95.false, ← past.to_hex-digit.ensures, le-ltb _ _ past.if-digit-lt16.false, past.if-lone.false)
+    (rw (← c.is_scalar.ensures, c.if-is_scalar.true, eq-eqb _ _ c.if-c-eq125.true))
 
-returns-6 : tie.Need-returns-6
+returns-6 : tie.Need-returns-then-is_scalar
 unfolding number_turn
 returns-6 c =
     let past = c.before.before.before in
-    rw (ne_eqb _ _ past.before.before.before.if1.false, ← past.before.before.to-hex.ensures, le-ltb _ _ past.before.if2.false, past.if4.false)
-    (rw (← c.before.before.is-scalar.ensures, c.before.if5.true, ne_eqb _ _ c.if6.false))
+    rw (ne_eqb _ _ past.if-c-eq95.false, ← past.to_hex-digit.ensures, le-ltb _ _ past.if-digit-lt16.false, past.if-lone.false)
+    (rw (← c.is_scalar.ensures, c.if-is_scalar.true, ne_eqb _ _ c.if-c-eq125.false))
 
-returns-7 : tie.Need-returns-7
+returns-7 : tie.Need-returns
 unfolding number_turn
 returns-7 c =
     let past = c.before.before in
-    rw (ne_eqb _ _ past.before.before.before.if1.false, ← past.before.before.to-hex.ensures, le-ltb _ _ past.before.if2.false, past.if4.false)
-    (rw (← c.before.is-scalar.ensures, c.if5.false))
+    rw (ne_eqb _ _ past.if-c-eq95.false, ← past.to_hex-digit.ensures, le-ltb _ _ past.if-digit-lt16.false, past.if-lone.false)
+    (rw (← c.is_scalar.ensures, c.if-is_scalar.false))
 
-pub number-turn-spec : {M : Type 1} → statement M
+pub number_turn_spec : {M : Type 1} → statement M
 unfolding number_turn
-number-turn-spec =
+number_turn_spec =
     tie.close
     (tie.spec
-    (λ c. rw (eq-eqb _ _ c.if1.true))
+    (λ c. rw (eq-eqb _ _ c.if-c-eq95.true))
     (λ c κs. search rules)
     (λ c. search rules)
     (λ c. search rules)

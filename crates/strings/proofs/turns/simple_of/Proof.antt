@@ -13,15 +13,15 @@ use Rattle.strings.proofs.turns.simple_of.Tie as tie
 abbrev singles : List (List ℕ)
 singles = (0x22 ∷ []) ∷ (0x27 ∷ []) ∷ (0x5C ∷ []) ∷ (0x74 ∷ []) ∷ (0x6E ∷ []) ∷ (0x72 ∷ []) ∷ []
 
-pub simple-of-spec : {M : Type 1} → statement M
+pub simple_of_spec : {M : Type 1} → statement M
 unfolding simple_of simples said within word is_key is_keys up down
-simple-of-spec =
+simple_of_spec =
     tie.close
     (tie.spec
-    (λ c. rw c.match.keys1)
-    (λ c. rw c.match.keys2)
-    (λ c. rw c.match.keys3)
-    (λ c. rw c.match.keys4)
-    (λ c. rw c.match.keys5)
-    (λ c. rw c.match.keys6)
-    (λ c. sym (in_match singles 0 0xFFFFFFFF _ c.match.rest (omega arith) (omega arith) simples 0 0 refl)))
+    (λ c. rw c.in-34.is)
+    (λ c. rw c.in-39.is)
+    (λ c. rw c.in-92.is)
+    (λ c. rw c.in-116.is)
+    (λ c. rw c.in-110.is)
+    (λ c. rw c.in-114.is)
+    (λ c. sym (in_match singles 0 0xFFFFFFFF _ c.in-34.rest (omega arith) (omega arith) simples 0 0 refl)))
