@@ -3,7 +3,6 @@ use Prim.Native.Nat.{◌-◌}
 use mathlib.Core.Path.{◌≡◌, refl, sym, ◌∙◌}
 use native.Mathlib.Omega.{arith}
 use lib.ListN.{length}
-use borrow.Author.Tests.{not-true, not-false}
 use Rattle.chars.specs.declared.Read.{Read}
 use Rattle.chars.specs.declared.Read.TheVariants.{Char}
 use Rattle.chars.specs.View.{folded_at, folded_from}
@@ -30,11 +29,11 @@ top r = r.before.before.before.before.before
 abbrev turn : Seen → tie.At-loop-at invariant-loop decreases-loop
 turn r = r.before
 
-reads : (r : Seen) (x : Read) → r.folded_at.result-1 ≡ x → folded_at (top r).args.text.now (turn r).loop-at.at ≡ x
+reads : (r : Seen) (x : Read) → r.folded_at.result ≡ x → folded_at (top r).args.text.now (turn r).loop-at.at ≡ x
 reads r x e = sym r.folded_at.ensures ∙ e
 
 stands : (c : tie.In-Char invariant-loop decreases-loop)
-    → let r = c.before.before in
+    → let r = c.before in
     folded_at (top r).args.text.now (turn r).loop-at.at ≡ Char c.in-Char.c c.in-Char.next
 stands c = reads c.before _ c.in-Char.is
 
@@ -50,13 +49,13 @@ returns-2 c =
 
 returns-3 : tie.Need-returns-then-not-continues invariant-loop decreases-loop
 returns-3 c =
-    let h = c.before.before.before in
-    sym ((turn h.before.before).loop-at.inv ∙ keylike_stops _ _ _ _ (stands h) (sym c.continues.ensures ∙ not-true _ c.if-not-continues.true))
+    let h : tie.In-Char invariant-loop decreases-loop = c.before.before in
+    sym ((turn h.before).loop-at.invariant ∙ keylike_stops _ _ _ _ (stands h) (sym c.continues.ensures ∙ c.if-not-continues.true))
 
 loop-again : tie.Need-loop-at-preserved invariant-loop decreases-loop
 loop-again c =
-    let h = c.before.before.before in
-    (turn h.before.before).loop-at.inv ∙ keylike_on _ _ _ _ (stands h) (sym c.continues.ensures ∙ not-false _ c.if-not-continues.false)
+    let h : tie.In-Char invariant-loop decreases-loop = c.before.before in
+    (turn h.before).loop-at.invariant ∙ keylike_on _ _ _ _ (stands h) (sym c.continues.ensures ∙ c.if-not-continues.false)
 
 pub lent_end_spec : {M : Type 1} → statement M
 lent_end_spec =
@@ -71,7 +70,7 @@ lent_end_spec =
     (λ c. search rules)
     returns-2
     (λ c. search rules)
-    (λ c κs. (top c.before).pre)
+    (λ c κs. c.requires)
     returns-3
     (λ c. omega (arith, folded_onward _ _ _ _ (stands c.before.before)))
     loop-again)
