@@ -84,8 +84,9 @@ class Steps:
                     parts = parts[length:]
                     break
             else:
-                is_own = out[-1:] in (["args"], ["ranges"], ["new"])
-                out.append(parts[0] if is_own else self.steps.get(plain(parts[0]), parts[0]))
+                is_own = bool({"args", "ranges", "new", "result"} & set(out))
+                older = {"inv": "invariant", "pre": "requires"}
+                out.append(parts[0] if is_own else older.get(parts[0]) or self.steps.get(plain(parts[0]), parts[0]))
                 parts = parts[1:]
         return "." + ".".join(out)
 
