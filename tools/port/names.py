@@ -66,6 +66,22 @@ class Steps:
             self.parent[name] = body
         self.at = dict(re.findall(r"Need-(\S+) =\s+\(c : ([^\s()]+)", lts))
         self.order = [new for _, new in entry["needs"]]
+        # the older chain of places: each with its parent, and today's place that stands for it
+        self.chain = [(old, parent) for old, parent, *_ in entry["places"]]
+        self.now = []
+        for new in entry["places_by_name"]:
+            base = re.sub(r"-\d+$", "", new)
+            self.now.append(base if base.startswith("In") and base in entry["places_by_name"] else new)
+
+    def up(self, start, count):
+        """Today's place that so many older steps lead back to."""
+        at = max((i for i, new in enumerate(self.now) if new == start), default=None)
+        for _ in range(count):
+            if at is None:
+                return None
+            parent = self.chain[at][1]
+            at = max((i for i, (old, _) in enumerate(self.chain[:at]) if old == parent), default=None)
+        return self.now[at] if at is not None else None
 
     def need(self, name):
         for start in ("", "overflow-", "bounds-"):
@@ -170,7 +186,19 @@ def led(text, steps):
                 if hops is not None:
                     line = re.sub(rf"= {typed[3]}(?:\.before)* in", f"= {chain(typed[3], hops)} in", line)
                 known[typed[1]] = to
-        out.append(given(line) if place else line)
+            free = re.search(rf"let (\w+) = (\w+)((?:\.before)+) in", line)
+            if free and free[2] in known:
+                to = steps.up(known[free[2]], free[3].count(".before"))
+                hops = steps.hops(known[free[2]], to) if to else None
+                if hops is not None:
+                    line = line.replace(free[0], f"let {free[1]} = {chain(free[2], hops)} in")
+                    known[free[1]] = to
+        if head:
+            binder = re.search(rf"\((\w+) : (?:tie\.)?({WORD})", head[2])
+            if binder and (binder[2] in alias or binder[2] in steps.parent):
+                known = {binder[1]: alias.get(binder[2], binder[2])}
+                place = place or known[binder[1]]
+        out.append(given(line) if place or known else line)
     start = next((i for i, line in enumerate(out) if line.strip() == "(tie.spec"), None)
     if start is not None:
         answers = [i for i in range(start + 1, len(out)) if out[i].strip()]
