@@ -129,11 +129,13 @@ def turned(text, steps):
             return "tie.Need-" + steps.need(name[5:])
         return "tie." + steps.places.get(plain(name), name)
 
+    # what is bound to a step's arguments has their fields
+    own = set(re.findall(r"let (\w+) = [^\n]*\.args in", text))
     lines = []
     for line in text.split("\n"):
         if not line.lstrip().startswith(("use ", "--")):
             line = re.sub(rf"(?<![\w'.-])tie\.([\w'-]+)", turn_tie, line)
-            line = re.sub(r"(?<=[\w'’₀₁₂₃)])((?:\.[\w'-]+)+)", lambda m: steps.path(m[1]), line)
+            line = re.sub(r"([\w'’₀₁₂₃)]+)((?:\.[\w'-]+)+)", lambda m: m[1] + (m[2] if m[1] in own else steps.path(m[2])), line)
             # a step's fields are those of each later one too
             line = re.sub(rf"({WORD})(?:\.before)+\.(?!before)(?=[\w'])", r"\1.", line)
         lines.append(line)
@@ -168,11 +170,11 @@ def led(text, steps):
             first = re.match(rf"\(?(?:(\w+) : )?(?:tie\.)?({WORD})", head[2])
             place = steps.at.get(need[1]) if need else takes.get(head[1])
             known = {}
-            target = re.search(rf"→ (?:tie\.)?({WORD})$", line)
+            target = re.search(rf"→ (?:tie\.)?({WORD})(?: {WORD})*$", line)
             back = alias.get(target[1], target[1]) if target else None
             name = head[1]
         if place:
-            bound = re.match(rf"{WORD} (\w+) =", line)
+            bound = re.match(rf"{WORD} (\w+)(?: κs)? =", line)
             if bound and head is None:
                 known = {bound[1]: place}
                 if back:

@@ -7,6 +7,7 @@ use crate::{Inside, More, Turn};
 use answers::{Place, Refusal};
 
 // The character that one behind a backslash stands for, 0 for none.
+#[tactic(auto, unfolding(crate::specs::Strings::simple_of, crate::specs::Strings::simples, terms::specs::Terms::said, terms::specs::Terms::within))]
 fn simple_of(c: u32) -> u32
     ensures { result ≡ simple_of c }
 {

@@ -21,7 +21,7 @@ returns-2 c =
 
 sub-t12 : tie.Need-overflow_sub-result
 sub-t12 c =
-    let p = c.before.before.before.before in
+    let p = c.before.before.before in
     let fair = rw p.in-Part.is at p.requires in
     omega arith
 

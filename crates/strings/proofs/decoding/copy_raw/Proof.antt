@@ -44,7 +44,7 @@ room : (c : Bare)
     (top t).args.n + (t.loop-k.k - (top t).args.at.0) < length (top t).args.value.now
 room c =
     let t : Turn = turn c in
-    copied_next _ _ _ _ _ _ t.loop-k.inv (top t).pre c.loop-k-test.true (bare c)
+    copied_next _ _ _ _ _ _ t.loop-k.invariant (top t).requires c.loop-k-test.true (bare c)
 
 returns : tie.Need-returns-then-b-eq34 invariant-loop decreases-loop
 unfolding is_mark
@@ -62,7 +62,7 @@ returns-2 c =
 loop-again : tie.Need-loop-k-preserved invariant-loop decreases-loop
 loop-again c =
     let t : Turn = turn c in
-    copied_on _ _ _ _ _ _ t.loop-k.inv (top t).pre c.loop-k-test.true (bare c)
+    copied_on _ _ _ _ _ _ t.loop-k.invariant (top t).requires c.loop-k-test.true (bare c)
 
 pub copy_raw_spec : {M : Type 1} → statement M
 copy_raw_spec =

@@ -16,10 +16,10 @@ use Rattle.strings.proofs.decoding.measure.Tie as tie
 abbrev top : tie.Else-byte_at-ne34 → tie.Start
 top c = c.before.before.before.before.before.before.before
 
-placed : (c : tie.Else-byte_at-ne34) → (top c).args.offset ≤ (top c).args.span.start-1.0
+placed : (c : tie.Else-byte_at-ne34) → (top c).args.offset ≤ (top c).args.span.start.0
 placed c = c.if-start-offset.false
 
-quote : (c : tie.Else-byte_at-ne34) → byte_at (top c).args.text.now (place ((top c).args.span.start-1.0 - (top c).args.offset)) ≡ 0x22
+quote : (c : tie.Else-byte_at-ne34) → byte_at (top c).args.text.now (place ((top c).args.span.start.0 - (top c).args.offset)) ≡ 0x22
 quote c = sym c.byte_at.ensures ∙ c.if-byte_at-ne34.false
 
 -- and where the rule answers
@@ -27,8 +27,8 @@ abbrev quoted : tie.After-expect_string_literal → tie.Else-byte_at-ne34
 quoted c = c.before.before
 
 closes : (c : tie.In-Closed)
-    → let a = (top (quoted c.before.before)).args in
-    string_literal a.text.now a.offset a.span.start-1 (place (a.span.start-1.0 - a.offset + 1)) ≡ Closed c.in-Closed.m c.in-Closed.n
+    → let a = (top (quoted c.before)).args in
+    string_literal a.text.now a.offset a.span.start (place (a.span.start.0 - a.offset + 1)) ≡ Closed c.in-Closed.m c.in-Closed.n
 closes c = sym c.expect_string_literal.ensures ∙ c.in-Closed.is
 
 returns-2 : tie.Need-returns-then-byte_at-ne34
@@ -39,25 +39,25 @@ returns-2 c =
 add-t10 : tie.Need-overflow_add-quote
 add-t10 c =
     let q = c.before in
-    let at = place ((top q).args.span.start-1.0 - (top q).args.offset) in
+    let at = place ((top q).args.span.start.0 - (top q).args.offset) in
     omega (arith, (top q).requires, byte_in (top q).args.text.now at (omega (arith, quote q)))
 
 returns-3 : tie.Need-returns-then-offset-m
 returns-3 c =
-    let m = c.before.before.before.before in
-    let q = quoted m.before.before in
+    let m = c.before.before.before in
+    let q = quoted m.before in
     sym (spelt_whole _ _ _ (placed q) (quote q) _ _ _ (closes m) c.if-offset-m.true)
 
 returns-4 : tie.Need-returns-in-Refused
 returns-4 c =
-    let r = c.before.before in
+    let r = c.before in
     let q = quoted r in
     measured_none _ (spelt_refused _ _ _ (placed q) (quote q) _ _ (sym r.expect_string_literal.ensures ∙ c.in-Refused.is))
 
 returns-5 : tie.Need-returns-else-offset-m
 returns-5 c =
-    let m = c.before.before.before.before in
-    let q = quoted m.before.before in
+    let m = c.before.before.before in
+    let q = quoted m.before in
     measured_none _ (spelt_otherwise _ _ _ (placed q) (quote q) _ _ _ (closes m) c.if-offset-m.false)
 
 pub measure_spec : {M : Type 1} → statement M

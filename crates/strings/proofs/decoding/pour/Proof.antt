@@ -29,7 +29,7 @@ abbrev turn : Copied → tie.At-loop-more invariant-loop decreases-loop
 turn c = c.before.before
 
 abbrev top : Copied → tie.Start invariant-loop decreases-loop
-top c = (turn c).before.before.before
+top c = c.before.before.before.before.before
 
 abbrev behind : Copied → Place
 behind c = on_by c.copy_raw-run.result (turn c).loop-more.at
@@ -40,7 +40,7 @@ count c = (turn c).loop-more.n + c.copy_raw-run.result
 abbrev Holds : Copied → List ℕ → Place → ℕ → Type 0
 Holds c = Poured (top c).args.text.now (top c).args.offset (top c).args.start (top c).args.value.now
 
-raw : (c : Copied) → Holds c c.copy_raw-run.new.1.1.0 (behind c) (count c)
+raw : (c : Copied) → Holds c c.copy_raw-run.new.value (behind c) (count c)
 raw c = poured_copy _ _ _ _ (top c).requires _ _ _ (turn c).loop-more.invariant _ _ c.copy_raw-run.ensures
 
 -- the cap keeps the sums small
@@ -56,47 +56,47 @@ copied c = c.before.before.before.before
 
 -- where it adds something, and that is stored
 adds : (c : tie.In-Adds invariant-loop decreases-loop)
-    → let r = copied c.before.before in
+    → let r = copied c.before in
     Leads (top r).args.text.now (top r).args.offset Plain (behind r) (Adds c.in-Adds.more c.in-Adds.next)
 adds c = rw c.in-Adds.is at c.element_at.ensures
 
 more : (c : tie.After-put-n invariant-loop decreases-loop)
-    → let m = c.before.before.before in
-    let r = copied m.before.before in
-    Holds r c.put-n.new.0 m.in-Adds.next (count r + c.put-n.result)
+    → let m = c.before.before in
+    let r = copied m.before in
+    Holds r c.put-n.new.value m.in-Adds.next (count r + c.put-n.result)
 more c =
-    let m = c.before.before.before in
-    let r : Copied = copied m.before.before in
-    poured_put _ _ _ _ (top r).pre _ _ _ (raw r) _ _ (adds m) _ _ c.put-n.ensures
+    let m = c.before.before in
+    let r : Copied = copied m.before in
+    poured_put _ _ _ _ (top r).requires _ _ _ (raw r) _ _ (adds m) _ _ c.put-n.ensures
 
 put-requires : tie.Need-put-n-requires invariant-loop decreases-loop
 put-requires c κs =
-    let m = c.before.before in
-    let r : Copied = copied m.before.before in
-    ((adds m).2, poured_fits _ _ _ _ (top r).pre _ _ _ (raw r) _ _ (adds m))
+    let m = c.before in
+    let r : Copied = copied m.before in
+    ((adds m).2, poured_fits _ _ _ _ (top r).requires _ _ _ (raw r) _ _ (adds m))
 
 add-n : tie.Need-overflow_add-n invariant-loop decreases-loop
 add-n c =
     let r : Copied = c.before.before.before in
-    omega (arith, (raw r).ranges, (raw r).long, (top r).well-formed)
+    omega (arith, (raw r).fits, (raw r).long, (top r).well_formed)
 
 add-n-2 : tie.Need-overflow_add-n-in-Adds invariant-loop decreases-loop
 add-n-2 c =
     let p = c.before.before in
-    let r : Copied = copied p.before.before.before.before.before in
-    omega (arith, (more p).ranges, (more p).long, (top r).good)
+    let r : Copied = copied p.before.before.before in
+    omega (arith, (more p).fits, (more p).long, (top r).well_formed)
 
 returns : tie.Need-returns-in-Close invariant-loop decreases-loop
 returns c =
     let k : Known = c.before in
     let r : Copied = copied k in
-    poured_close _ _ _ _ (top r).pre _ _ _ (raw r) _ (rw c.in-Close.is at k.element_at.ensures)
+    poured_close _ _ _ _ (top r).requires _ _ _ (raw r) _ (rw c.in-Close.is at k.element_at.ensures)
 
 returns-2 : tie.Need-returns-in-Fail invariant-loop decreases-loop
 returns-2 c =
     let k : Known = c.before in
     let r : Copied = copied k in
-    absurd (poured_fail _ _ _ _ (top r).pre _ _ _ (raw r) _ (rw c.in-Fail.is at k.element_at.ensures))
+    absurd (poured_fail _ _ _ _ (top r).requires _ _ _ (raw r) _ (rw c.in-Fail.is at k.element_at.ensures))
 
 pub pour_spec : {M : Type 1} → statement M
 pour_spec =

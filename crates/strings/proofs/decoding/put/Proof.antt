@@ -15,16 +15,16 @@ use Rattle.strings.proofs.decoding.put.Tie as tie
 abbrev Asked : tie.Start → More → Type 0
 Asked c m = Proper m × (c.args.n + length (added m) ≤ length c.args.value.now)
 
-one : (c : tie.In-One) → Asked c.before.before.before (One c.in-One.b)
+one : (c : tie.In-One) → Asked c.before.before (One c.in-One.b)
 one c = rw c.in-One.is at c.requires
 
-whole : (c : tie.In-Whole) → Asked c.before.before.before (Whole c.in-Whole.c)
+whole : (c : tie.In-Whole) → Asked c.before.before (Whole c.in-Whole.c)
 whole c = rw c.in-Whole.is at c.requires
 
 returns-3 : tie.Need-returns-in-Whole
 unfolding added
 returns-3 c =
-    let w = c.before.before.before.before.before in
+    let w = c.before.before.before.before in
     rw w.in-Whole.is (stored_whole _ _ _ (whole w).0 (whole w).1 _ _ c.encode.ensures)
 
 pub put_spec : {M : Type 1} → statement M

@@ -31,24 +31,24 @@ value c = sym c.measure.ensures ∙ c.in-Value.is
 
 returns : tie.Need-returns-then-value-n
 returns c =
-    let n = c.before.before in
+    let n = c.before in
     sym (decoded_short _ _ _ _ (passes (accepted n)) _ (value n) c.if-value-n.true)
 
 sub-t18 : tie.Need-overflow_sub-span
 sub-t18 c =
-    let n = c.before.before.before in
+    let n = c.before.before in
     let a = accepted n in
     (spelled _ _ _ (top a).args.value.now (passes a) _ (value n)).placed
 
 add-t19 : tie.Need-overflow_add-span
 add-t19 c =
-    let n = c.before.before.before in
+    let n = c.before.before in
     let a = accepted n in
     omega (arith, (spelled _ _ _ (top a).args.value.now (passes a) _ (value n)).inside, (text_in _ _ (passes a)).short)
 
 pour-requires : tie.Need-pour-requires
 pour-requires c κs =
-    let n = c.before.before.before.before in
+    let n = c.before.before.before in
     let a = accepted n in
     room _ _ _ (top a).args.value.now (passes a) _ (value n) c.if-value-n.false
 
@@ -57,13 +57,13 @@ returns-2 c = sym (decoded_refused _ _ _ _ _ (sym c.check_text.ensures ∙ c.in-
 
 returns-3 : tie.Need-returns-in-Refused-measure
 returns-3 c =
-    let m = c.before.before.before in
+    let m = c.before in
     sym (decoded_nothing _ _ _ _ (passes m.before) _ (sym m.measure.ensures ∙ c.in-Refused-measure.is))
 
 returns-4 : tie.Need-returns-else-value-n
 returns-4 c =
     let r = c.before.before.before.before.before in
-    let n = r.before.before in
+    let n = r.before in
     rw c.pour.ensures (sym (decoded_value _ _ _ _ (passes (accepted n)) _ (value n) r.if-value-n.false))
 
 pub string_literal_spec : {M : Type 1} → statement M

@@ -19,12 +19,12 @@ decreases-loop text from end k₀ k = end - k
 returns : tie.Need-returns-then-not-is_bare invariant-loop decreases-loop
 returns c =
     let in-turn = c.before.before.before in
-    sym (in-turn.loop-k.invariant ∙ first_hit _ _ _ in-turn.loop-k-test.true (rw (← c.is_bare.ensures) c.if-not-is_bare.true))
+    sym (in-turn.loop-k.invariant ∙ first_hit _ _ _ in-turn.loop-k-test.true (rw (← c.is_bare.ensures, c.if-not-is_bare.true)))
 
 loop-again : tie.Need-loop-k-preserved invariant-loop decreases-loop
 loop-again c =
     let in-turn = c.before.before.before in
-    in-turn.loop-k.invariant ∙ first_miss _ _ _ in-turn.loop-k-test.true (rw (← c.is_bare.ensures) c.if-not-is_bare.false)
+    in-turn.loop-k.invariant ∙ first_miss _ _ _ in-turn.loop-k-test.true (rw (← c.is_bare.ensures, c.if-not-is_bare.false))
 
 pub bare_end_spec : {M : Type 1} → statement M
 unfolding bare_end

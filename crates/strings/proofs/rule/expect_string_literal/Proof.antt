@@ -31,20 +31,24 @@ top c = c.before.before.before.before
 met : (c : Passed) → Reached (top c).args.text.now (top c).args.offset (top c).args.at c.if-run-gt0.here c.if-run-gt0.count c.if-run-gt0.seen
 met c =
     let before = c.loop-here.invariant in
-    ⊎_elim (λ w. simp (w.3, w.4, w.5, w.2.ensures) (reached_run _ _ _ _ _ _ before _ c.raw_run-run.ensures w.0.taken))
-    (λ w. simp (w.1, w.2, w.3) before)
-    c.if-run-gt0.branch
+    ⊎_elim
+    (λ w. simp (w.here-is, w.count-is, w.seen-is, w.passed-seen.ensures) (reached_run _ _ _ _ _ _ before _ c.raw_run-run.ensures w.if-run-gt0.true))
+    (λ w. simp (w.here-is, w.count-is, w.seen-is) before)
+    c.if-run-gt0.branch-raw
 
 onto : (c : Passed) → c.loop-here.here.0 ≤ c.if-run-gt0.here.0
 onto c =
-    ⊎_elim (λ w. omega (arith, ap (λ (q : Place). q.0) w.3)) (λ w. omega (arith, ap (λ (q : Place). q.0) w.1)) c.if-run-gt0.branch
+    ⊎_elim
+    (λ w. omega (arith, ap (λ (q : Place). q.0) w.here-is))
+    (λ w. omega (arith, ap (λ (q : Place). q.0) w.here-is))
+    c.if-run-gt0.branch-raw
 
 -- where something is added
 abbrev Added : Type 0
 Added = tie.In-Adds invariant-loop decreases-loop
 
 abbrev passed : Added → Passed
-passed c = c.before.before.before
+passed c = c.before.before
 
 adds : (c : Added)
     → let r = passed c in
@@ -73,13 +77,13 @@ loop-again c =
 
 returns : tie.Need-returns-in-Close invariant-loop decreases-loop
 returns c =
-    let e = c.before.before.before.before in
+    let e = c.before.before in
     c.closed.ensures
     ∙ sym (reached_close _ _ _ _ _ _ (met e.before) _ _ (rw c.in-Close.is at e.element_at.ensures))
 
 returns-2 : tie.Need-returns-in-Fail invariant-loop decreases-loop
 returns-2 c =
-    let e = c.before.before.before in
+    let e = c.before in
     sym (reached_fail _ _ _ _ _ _ (met e.before) _ _ (rw c.in-Fail.is at e.element_at.ensures))
 
 pub expect_string_literal_spec : {M : Type 1} → statement M

@@ -47,7 +47,7 @@ abbrev passed : tie.After-read_at invariant-loop decreases-loop → Passed
 passed c = c.before.before.before.before
 
 stands : (c : tie.In-Char invariant-loop decreases-loop)
-    → let p = passed c.before.before in
+    → let p = passed c.before in
     char_at (top p).args.text.now (place p.bare_end-k.result) ≡ Char c.in-Char.field-0 c.in-Char.next
 stands c = sym c.read_at.ensures ∙ c.in-Char.is
 
@@ -59,16 +59,16 @@ loop-holds c =
 
 loop-less : tie.Need-loop-k-smaller invariant-loop decreases-loop
 loop-less c =
-    let next = c.before.before in
-    omega (arith, beyond (passed next.before.before), onward _ _ _ _ (stands next))
+    let next = c.before in
+    omega (arith, beyond (passed next.before), onward _ _ _ _ (stands next))
 
 loop-again : tie.Need-loop-k-preserved invariant-loop decreases-loop
 unfolding byte_at
 loop-again c =
-    let next = c.before.before in
-    let p : Passed = passed next.before.before in
+    let next = c.before in
+    let p : Passed = passed next.before in
     record {
-      limit = p.loop-k.inv.limit;
+      limit = p.loop-k.invariant.limit;
       begun = omega (arith, beyond p, onward _ _ _ _ (stands next));
       raw = raw_high _ _ _ _ _ (omega (arith, beyond p)) (raw p) (stands next) next.if-text-k-lt128.false;
     }

@@ -30,10 +30,10 @@ abbrev Read : Type 0
 Read = tie.In-Char invariant-loop decreases-loop
 
 abbrev turn : Read → tie.At-loop-refusal invariant-loop decreases-loop
-turn c = c.before.before.before
+turn c = c.before.before
 
 abbrev top : Read → tie.Start invariant-loop decreases-loop
-top c = (turn c).before.before
+top c = c.before.before.before.before
 
 abbrev text : Read → List ℕ
 text c = (top c).args.text.now
@@ -49,7 +49,7 @@ abbrev On : Type 0
 On = tie.In-On invariant-loop decreases-loop
 
 abbrev read : On → Read
-read c = c.before.before.before.before
+read c = c.before.before
 
 abbrev state : On → Inside
 state c = c.in-On.then
@@ -60,7 +60,7 @@ more c = c.in-On.more
 goes : (c : On)
     → let r = read c in
     Went (text r) (top r).args.offset (turn r).loop-refusal.inside (turn r).loop-refusal.at (state c) (more c) (next r)
-goes c = went _ _ _ _ _ _ (stands (read c)) (turn (read c)).loop-refusal.inv.1 _ _ (sym c.turn_of.ensures ∙ c.in-On.is)
+goes c = went _ _ _ _ _ _ (stands (read c)) (turn (read c)).loop-refusal.invariant.1 _ _ (sym c.turn_of.ensures ∙ c.in-On.is)
 
 -- a turn that goes back between characters is the element
 adds : (c : On) → state c ≡ Plain
@@ -68,11 +68,11 @@ adds : (c : On) → state c ≡ Plain
     Leads (text r) (top r).args.offset (top r).args.from (top r).args.start (Adds (more c) (next r))
 adds c back =
     let r : Read = read c in
-    leads_too _ _ _ _ _ _ (turn r).loop-refusal.inv.0 (Adds _ _) (leads_back _ _ _ _ _ _ _ (read_on _ _ _ _ (stands r)) (goes c) back)
+    leads_too _ _ _ _ _ _ (turn r).loop-refusal.invariant.0 (Adds _ _) (leads_back _ _ _ _ _ _ _ (read_on _ _ _ _ (stands r)) (goes c) back)
 
 returns : tie.Need-returns-in-Fail invariant-loop decreases-loop
 returns c =
-    let e = c.before.before.before in
+    let e = c.before in
     leads_too _ _ _ _ _ _ e.loop-refusal.invariant.0 (Fail _)
     (λ h. expected_fails _ _ _ _ (sym e.expect_any_char.ensures ∙ c.in-Fail.is) _ h)
 
@@ -84,7 +84,7 @@ unfolding added
 loop-again c =
     let t : On = c.before in
     let on = simp c.in-Nothing.is at (goes t).comes in
-    (comes_on _ _ _ _ _ _ _ _ _ _ (turn (read t)).loop-refusal.inv.0 on, (goes t).sound)
+    (comes_on _ _ _ _ _ _ _ _ _ _ (turn (read t)).loop-refusal.invariant.0 on, (goes t).sound)
 
 returns-2 : tie.Need-returns-in-One invariant-loop decreases-loop
 returns-2 c =
@@ -106,8 +106,8 @@ returns-4 c =
 
 returns-5 : tie.Need-returns-in-Fail-turn_of invariant-loop decreases-loop
 returns-5 c =
-    let t = c.before.before.before in
-    let r : Read = t.before.before in
+    let t = c.before in
+    let r : Read = t.before in
     leads_too _ _ _ _ _ _ (turn r).loop-refusal.invariant.0 (Fail _)
     (λ h. turn_fail _ _ _ _ _ (stands r) _ h _ (sym t.turn_of.ensures ∙ c.in-Fail-turn_of.is))
 
@@ -122,7 +122,7 @@ turns_at_spec =
     (λ c. search rules)
     returns
     (λ c. search rules)
-    (λ c κs. (turn c).loop-refusal.inv.1)
+    (λ c κs. (turn c).loop-refusal.invariant.1)
     (λ c. search rules)
     (λ c. search rules)
     loop-less
