@@ -1,20 +1,16 @@
 #!/usr/bin/env python3
-"""Each public function has a wrong edit that its contract rules out, and each edit fits; each function of a host has at least two wrong
-answers in the table of the room `review`, and a theorem there that its contract bars them. Prints what is missing; exit 1 then.
+"""Each public function has at least two wrong edits that its contract rules out, and each edit fits. Prints what is missing; exit 1 then.
 
 An edit of crates/NAME/must-fail counts for a function if it changes that function, one of the same crate that it calls, or a definition of
-the same crate that one of their contracts cites; an edit of a proof counts for none, and is a fault. The functions that docs/EXCEPTIONS.md
-names, whose contracts are no equations, are left out. With -v it prints each function with its edits, or its number of wrong answers.
+the same crate that one of their contracts cites. The functions that docs/EXCEPTIONS.md names, whose contracts are no equations, are left
+out. With -v it prints each function with its edits.
 """
 import re
 import sys
 
-from repository import CRATES, TOP, changes, misfits, public
+from repository import CRATES, TOP, changes, is_library, misfits, public
 
-FEWEST_EDITS = 1
-FEWEST_ANSWERS = 2
-TABLE = CRATES / "review/proofs/Wrong.antt"
-THEOREMS = CRATES / "review/proofs/Barred.antt"
+FEWEST = 2
 
 CODE = re.compile(r"^( *)(?:pub(?:\(crate\))? )?(?:extern \"C\" )?(?:fn|const) (\w+)")
 DEFINITION = re.compile(r"^()(?:(?:unfoldable|abbrev) )?pub (?:record |data )?(\S+)")
@@ -27,14 +23,16 @@ class Piece:
     def __init__(self, path, name, whole, first, lines):
         self.path, self.name, self.whole, self.first = path, name, whole, first
         self.code = path.suffix == ".rt"
-        mark = "//" if self.code else "--"
-        self.lines = [line for line in lines if not line.strip().startswith(mark)]
+        aside = ("//", "#[") if self.code else ("--",)
+        self.lines = [line for line in lines if not line.strip().startswith(aside)]
 
     def names(self, modules):
-        """The names that it reaches, each with whether it is one of code or of a definition."""
+        """The names that it reaches, each with whether it is one of code or of a definition. A clause may go over several lines."""
+        deep = 0
         for line in self.lines:
-            if not self.code or re.match(r" *(ensures|requires) ", line):
-                yield from ((word, False) for word in re.split(r"[^\w·'-]+", line))
+            if not self.code or deep or re.match(r" *(ensures|requires)\b", line):
+                deep = deep + line.count("{") - line.count("}") if self.code else 0
+                yield from ((word, False) for word in re.split(r"[^\w'-]+", line))
             else:
                 for module, function, constant in CALL.findall(line):
                     if not module or module in modules:
@@ -80,53 +78,25 @@ def counts(crate, edits):
         yield function, sorted(set().union(*(wrong.get(piece, set()) for piece in reached)))
 
 
-def edited(verbose):
-    """What is missing of the edits, and how many functions have theirs."""
+def main():
     aside = (TOP / "docs/EXCEPTIONS.md").read_text(encoding="utf-8")
     functions, bad = 0, []
     for crate in sorted(CRATES.iterdir()):
         edits = sorted(crate.glob("must-fail/*.edit"))
         unfit = [line for edit in edits for line in misfits(edit, crate)]
-        unfit += [f"{edit.relative_to(TOP)} changes a proof" for edit in edits if any(file.startswith("proofs/") for file, _ in changes(edit))]
         bad += unfit
-        if unfit or not (crate / "src/lib.rt").is_file():
+        if unfit or not is_library(crate):
             continue
         for function, ruled_out in counts(crate, edits):
             owner = function.rpartition("::")[0]
             if f"`{crate.name}::{function}`" in aside or owner and f"`{crate.name}::{owner}`" in aside:
                 continue
             functions += 1
-            if len(ruled_out) < FEWEST_EDITS:
-                bad.append(f"{crate.name}::{function} has no wrong edit")
-            if verbose:
+            if len(ruled_out) < FEWEST:
+                bad.append(f"{crate.name}::{function} has {len(ruled_out)} wrong edits: {', '.join(ruled_out) or 'none'}")
+            if "-v" in sys.argv:
                 print(f"{crate.name}::{function}: {', '.join(ruled_out)}")
-    return bad, functions
-
-
-def answered(verbose):
-    """What is missing of the wrong answers, and how many there are. A row of the table starts with the call: a host's function without
-    `witbox_`; `opening` stands for `open`, a word that antt reserves."""
-    rows = re.findall(r"^ +(?:∷ )?\(([a-z-]+) .* never ", TABLE.read_text(encoding="utf-8"), re.M)
-    theorems = re.findall(r"^  pub ([a-z-]+)-bars : Bars (\w+)\.ended", THEOREMS.read_text(encoding="utf-8"), re.M)
-    bad = []
-    for function in public(CRATES / "witbox"):
-        name = function.removeprefix("witbox_").replace("_", "-")
-        found = rows.count("opening" if name == "open" else name)
-        if found < FEWEST_ANSWERS:
-            bad.append(f"{TABLE.relative_to(TOP)} has {found} wrong answers of {function}")
-        if (name, function) not in theorems:
-            bad.append(f"{THEOREMS.relative_to(TOP)} has no theorem {name}-bars of {function}")
-        if verbose:
-            print(f"{function}: {found} wrong answers")
-    return bad, len(rows)
-
-
-def main():
-    verbose = "-v" in sys.argv
-    without_edit, functions = edited(verbose)
-    without_answer, answers = answered(verbose)
-    bad = without_edit + without_answer
-    print("\n".join(bad) or f"must-fail: each of {functions} public functions has a wrong edit; {answers} wrong answers of hosts' functions are barred")
+    print("\n".join(bad) or f"must-fail: each of {functions} public functions has at least {FEWEST} wrong edits")
     sys.exit(bool(bad))
 
 

@@ -4,7 +4,7 @@ stay short, with a sentence above each. Prints what is missing; exit 1 then."""
 import re
 import sys
 
-from repository import CRATES, TOP, public
+from repository import CRATES, TOP, is_library, public
 
 MOST_LINES = 600 + 20  # of definitions that a reviewer reads: the base, and requests §3 and §6
 WRITTEN = ("XidStart.antt", "XidContinue.antt")  # by tools/unicode/ranges.py, which checks them: not counted
@@ -32,7 +32,7 @@ def main():
     missing = []
     lines = 0
     for crate in sorted(CRATES.iterdir()):
-        if (crate / "src/lib.rt").is_file():
+        if is_library(crate):
             for name in public(crate):
                 if f"`{name}`" not in page and f"`{crate.name}::{name}`" not in page:
                     missing.append(f"public function {crate.name}::{name}")

@@ -6,6 +6,12 @@ TOP = pathlib.Path(__file__).resolve().parent.parent
 CRATES = TOP / "crates"
 
 
+def is_library(crate):
+    """Whether other crates can stand on it: not a program, and not a static library, whose exports are another crate's functions again."""
+    is_static = re.search(rf"^{crate.name} staticlib\b", (TOP / "crates.txt").read_text(encoding="utf-8"), re.M)
+    return (crate / "src/lib.rt").is_file() and not is_static
+
+
 def public(crate):
     """The functions that another crate can call, as docs/READING.md names them: `pub fn` in lib.rt or in an `impl` there, or one that lib.rt
     hands on with `pub use`."""

@@ -12,7 +12,7 @@ fn main() {
     println!("cargo:rerun-if-changed={}", archive.display());
     if !archive.is_file() {
         eprintln!("witbox: {} is not there", archive.display());
-        eprintln!("witbox: run: rt staticlib witbox");
+        eprintln!("witbox: run: tools/staticlib");
         eprintln!("witbox: at the top of the repository, or let WITBOX_LIB_DIR name the folder of libwitbox.a");
         exit(1);
     }

@@ -12,8 +12,10 @@ import argparse
 import pathlib
 import re
 import sys
+import textwrap
 
 CRATE = pathlib.Path(__file__).resolve().parent.parent.parent / "crates/classes"
+WIDTH = 99  # of a line of an array
 ROW = re.compile(r"([0-9A-F]{4,6})(?:\.\.([0-9A-F]{4,6}))?\s*;\s*([^\s;]+)\s*(?:;.*)?")
 
 
@@ -72,8 +74,9 @@ def ranges(points):
 
 
 def array(name, numbers):
-    body = "".join(f"    0x{n:X},\n" for n in numbers)
-    return f"pub(crate) const {name}: [u32; {len(numbers)}] = [\n{body}];\n"
+    """A const array, as rt fmt lays it out: as many numbers in a line as fit."""
+    body = textwrap.fill(" ".join(f"0x{n:X}," for n in numbers), WIDTH, initial_indent="    ", subsequent_indent="    ")
+    return f"pub(crate) const {name}: [u32; {len(numbers)}] = [\n{body}\n];\n"
 
 
 def tables(made, lists):
@@ -89,7 +92,7 @@ def definition(made, title, name, found):
     lines = [" ∷ ".join(pairs[k : k + 8]) for k in range(0, len(pairs), 8)]
     return (
         f"-- {made}\n"
-        "use Prim.Native.Nat.{ℕ}\nuse mathlib.Core.List.{List, [], _∷_}\n\n"
+        "use Rattle.std.specs.Prelude.{ℕ, List, [], ◌∷◌}\n\n"
         f"-- {title}: the first and the last code point of each range.\n"
         f"unfoldable pub {name} : List (ℕ × ℕ)\n{name} =\n    " + "\n    ∷ ".join(lines) + " ∷ []\n"
     )
@@ -107,14 +110,14 @@ def count(name, said, number, unfolded):
 def counts(made, starts, continues):
     text = (
         f"-- How many ranges and code points each list has.\n-- {made}\n"
-        "use Prim.Native.Nat.{ℕ, _+_, _-_}\nuse mathlib.Core.Path.{_≡_, refl}\nuse mathlib.Core.List.{List, [], _∷_}\nuse lib.ListN.{length}\n"
-        "use Rattle·classes·specs.specs.XidStart.{xidStarts}\nuse Rattle·classes·specs.specs.XidContinue.{xidContinues}\n\n"
+        "use Prim.Native.Nat.{ℕ, ◌+◌, ◌-◌}\nuse mathlib.Core.Path.{◌≡◌, refl}\nuse mathlib.Core.List.{List, [], ◌∷◌}\nuse lib.ListN.{length}\n"
+        "use Rattle.classes.specs.XidStart.{xid_starts}\nuse Rattle.classes.specs.XidContinue.{xid_continues}\n\n"
         "-- how many code points ranges have that do not overlap\n"
-        "unfoldable size : List (ℕ × ℕ) → ℕ\nsize [] = 0\nsize (r ∷ rs) = r .1 + 1 - r .0 + size rs\n"
+        "unfoldable size : List (ℕ × ℕ) → ℕ\nsize [] = 0\nsize (r ∷ rs) = r.1 + 1 - r.0 + size rs\n"
     )
-    for title, name, found in (("starts", "xidStarts", starts), ("continues", "xidContinues", continues)):
-        text += count(f"{title}-ranges", f"length {name}", len(found), name)
-        text += count(f"{title}-points", f"size {name}", size(found), f"{name} size")
+    for title, name, found in (("starts", "xid_starts", starts), ("continues", "xid_continues", continues)):
+        text += count(f"{title}_ranges", f"length {name}", len(found), name)
+        text += count(f"{title}_points", f"size {name}", size(found), f"{name} size")
     return text
 
 
@@ -128,8 +131,8 @@ def written(arguments):
     made = f"Unicode {arguments.version}, written by `tools/unicode/ranges.py {names[0]} {names[1]} {arguments.version}`; not to be changed by hand."
     return {
         "src/tables.rt": tables(made, [("START", starts), ("CONTINUE", continues)]),
-        "specs/XidStart.antt": definition(made, "XID_Start", "xidStarts", starts),
-        "specs/XidContinue.antt": definition(made, "XID_Continue", "xidContinues", continues),
+        "specs/XidStart.antt": definition(made, "XID_Start", "xid_starts", starts),
+        "specs/XidContinue.antt": definition(made, "XID_Continue", "xid_continues", continues),
         "proofs/Counts.antt": counts(made, starts, continues),
     }
 

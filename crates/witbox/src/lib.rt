@@ -1,6 +1,6 @@
-//! The static library for hosts: the public calls as C functions. `include/witbox.h` tells a host programmer what each takes and leaves.
-//! A slice is a pointer and a count. An answer is a struct of numbers that begins with number, position and detail. A cursor is lent as
-//! its one number.
+//! The public calls as hosts make them: C functions, which the static library `witbox_c` exports. `include/witbox.h` tells a host programmer
+//! what each takes and leaves. A slice is a pointer and a count. An answer is a struct of numbers that begins with number, position and
+//! detail. A cursor is lent as its one number.
 #![tactic(auto)]
 
 mod answering;

@@ -72,7 +72,7 @@ fn main() {
     // what needs no library
     let alone = matches!(words[0].as_str(), "record" | "mutants" | "wrong");
     if options.side == Side::Library && !side::LIBRARY && !alone {
-        eprintln!("compare: {} is not here: build it with 'rt staticlib witbox', then build this again. Nothing is compared.", side::ARCHIVE);
+        eprintln!("compare: {} is not here: build it with 'tools/staticlib', then build this again. Nothing is compared.", side::ARCHIVE);
         eprintln!("compare: --model puts a second reading of the paper in its place.");
         exit(2);
     }

@@ -1,4 +1,4 @@
--- Runs of bytes of one set: what the rooms above pass over at once. No public contract there cites it; `run-strides` (proofs/RunLaws.antt) ties it to the view.
+-- Runs of bytes of one set: what the rooms above pass over at once. No public contract there cites it; `run_strides` (proofs/RunLaws.antt) ties it to the view.
 use Rattle.std.specs.Prelude.{ℕ, ◌-◌, ◌/◌, ◌%◌, ◌^◌, min, Bool, false, not, List, length, get_or, ltb, eqb}
 use Rattle.terms.specs.Terms.{if◌then◌else◌, first}
 use Rattle.answers.specs.declared.Place.{Place}

@@ -1,4 +1,4 @@
--- Runs of keylike continuations, which the rules of words pass over at once: `keylike-ascii` (proofs/ShortLaws.antt) and `keylike-passes`
+-- Runs of keylike continuations, which the rules of words pass over at once: `keylike_ascii` (proofs/ShortLaws.antt) and `keylike_passes`
 -- (proofs/RunLaws.antt) tie them to the classes and to the view.
 use Rattle.terms.specs.Terms.{if◌then◌else◌}
 use Rattle.answers.specs.declared.Place.{Place}

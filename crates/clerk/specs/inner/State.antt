@@ -1,4 +1,4 @@
--- What the state of the placing says of the edges. `tracks_Ready` (proofs/StateLaws.antt) ties it to the clerk's next item.
+-- What the state of the placing says of the edges. `tracks_ready` (proofs/StateLaws.antt) ties it to the clerk's next item.
 use Rattle.std.specs.Prelude.{ℕ, ◌+◌, ◌*◌, ◌<◌, ◌≤◌, ◌≡◌, Bool, List, [], ◌∷◌, ◌++◌, length, get_or, take, eqb}
 use Rattle.terms.specs.Terms.{bit, member}
 use Rattle.graph.specs.Order.{Edge, unmet, settled, order}

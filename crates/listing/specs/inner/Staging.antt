@@ -1,5 +1,5 @@
 -- What the walk over a text's tokens leaves: the count of its rows, and as many as there is room for; and what is then written to the table.
--- `staged-tabled` in proofs/StageLaws.antt ties both to `tabled`.
+-- `staged_tabled` in proofs/StageLaws.antt ties both to `tabled`.
 use Rattle.std.specs.Prelude.{ℕ, ◌+◌, ◌*◌, ◌≤◌, ◌≡◌, Bool, true, List, ◌++◌, length, take, drop, leb}
 use Rattle.terms.specs.Terms.{if◌then◌else◌, over}
 use Rattle.answers.specs.declared.Refusal.TheVariants.{TooManyRows, NoRoom}

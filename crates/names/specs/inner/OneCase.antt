@@ -1,4 +1,4 @@
--- Identifiers whose letters are all of one case. `one-case-accepted` (proofs/OneCaseLaws.antt) ties it to the parts.
+-- Identifiers whose letters are all of one case. `one_case_accepted` (proofs/OneCaseLaws.antt) ties it to the parts.
 use Rattle.std.specs.Prelude.{◌≡◌, ℕ, ◌+◌, ◌<◌, ◌≤◌, Bool, true, not, ◌&&◌, ◌||◌, List, ◌==◌, nat_lt, slice_index}
 use Rattle.terms.specs.Terms.{if◌then◌else◌, within}
 

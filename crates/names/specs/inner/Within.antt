@@ -1,4 +1,4 @@
--- Where an identifier lies. `plain-within` and `explicit-within` (proofs/NameLaws.antt) say it of each.
+-- Where an identifier lies. `plain_within` and `explicit_within` (proofs/NameLaws.antt) say it of each.
 use Rattle.std.specs.Prelude.{ℕ, ◌≤◌, List, length}
 use Rattle.names.specs.declared.Named.{Named}
 

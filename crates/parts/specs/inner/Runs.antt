@@ -1,4 +1,4 @@
--- The bytes that a part passes over at once. `part-passes` (proofs/PartLaws.antt) ties it to the parts.
+-- The bytes that a part passes over at once. `part_passes` (proofs/PartLaws.antt) ties it to the parts.
 use Rattle.chars.specs.declared.AsciiSet.{AsciiSet}
 use Rattle.parts.specs.declared.Part.{Part}
 

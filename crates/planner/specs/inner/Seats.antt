@@ -1,4 +1,4 @@
--- Where the words of a list stand. `seats-early` (proofs/SeatLaws.antt) ties it to what is too early in the list.
+-- Where the words of a list stand. `seats_early` (proofs/SeatLaws.antt) ties it to what is too early in the list.
 use Rattle.std.specs.Prelude.{ℕ, ◌<◌, ◌≡◌, List, length, get_or}
 use Rattle.terms.specs.Terms.{first}
 use Rattle.planner.specs.declared.seats.Seats.{Seats}

@@ -1,4 +1,4 @@
--- Well-formedness and screening in one walk. `one-walk` (proofs/ScreeningLaws.antt) ties it to `invalid_input`.
+-- Well-formedness and screening in one walk. `one_walk` (proofs/ScreeningLaws.antt) ties it to `invalid_input`.
 use Rattle.std.specs.Prelude.{ℕ}
 use Rattle.answers.specs.declared.Verdict.{Verdict}
 use Rattle.answers.specs.declared.Verdict.TheVariants.{Accepted, Refused}

@@ -1,5 +1,5 @@
 -- A name's signature: a byte computed from all of its bytes. Names with two signatures are two names, so a search looks closer only where the
--- signatures agree. `signed-apart` (proofs/NameLaws.antt) ties it to the search that the definitions make.
+-- signatures agree. `signed_apart` (proofs/NameLaws.antt) ties it to the search that the definitions make.
 use Rattle.std.specs.Prelude.{ℕ, ◌+◌, ◌*◌, ◌%◌, ◌≤◌, ◌<◌, ◌≡◌, List, [], ◌∷◌, length, get_or}
 use Rattle.sheets.specs.Words.{items, name_of, part}
 use Rattle.terms.specs.Terms.{over}

@@ -19,14 +19,14 @@ use Rattle.strings.specs.declared.Seen.{Seen}
 use Rattle.strings.specs.Strings.{added, bytes, refused, gather}
 use Rattle.strings.specs.inner.Checking.{feeds, pass, Fair, Proper}
 
--- A byte that is all there is of the character at a place; else 0x80. `ascii-stands` (proofs/TurnLaws.antt) ties it to `folded_at`.
+-- A byte that is all there is of the character at a place; else 0x80. `ascii_stands` (proofs/TurnLaws.antt) ties it to `folded_at`.
 unfoldable pub ascii_at : List ℕ → Place → ℕ
 ascii_at s p =
     if leb (length s) p.0 || leb cap p.0 then 0x80
     else if eqb (byte_at s p) 13 then 0x80
     else byte_at s p
 
--- The character at a place where a string cannot end: else 13, or 3. `expected-stands` and `expected-fails` (proofs/TurnLaws.antt) tie it to `gather`.
+-- The character at a place where a string cannot end: else 13, or 3. `expected_stands` and `expected_fails` (proofs/TurnLaws.antt) tie it to `gather`.
 unfoldable pub expected_of : ℕ → Place → Read → Expected
 expected_of o p End = Fails (UnexpectedEof (in_map o p))
 expected_of o p (Ill i) = Fails (IllFormed i)

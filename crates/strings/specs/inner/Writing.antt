@@ -1,4 +1,4 @@
--- Decoding by two walks, of which the first measures and the second writes. `decoded-value` (proofs/DecodingLaws.antt) ties them to `decoded`.
+-- Decoding by two walks, of which the first measures and the second writes. `decoded_value` (proofs/DecodingLaws.antt) ties them to `decoded`.
 use Rattle.std.specs.Prelude.{ℕ, ◌-◌, ◌≤◌, Bool, ◌||◌, List, ◌++◌, length, get_or, drop, eqb}
 use Rattle.std.proofs.Math.Seq.{paste}
 use Rattle.terms.specs.Terms.{first}

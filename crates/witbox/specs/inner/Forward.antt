@@ -1,4 +1,4 @@
--- An identifier that does not run backwards. `plain-within` and `explicit-within` of the room `names` say that none does.
+-- An identifier that does not run backwards. `plain_within` and `explicit_within` of the room `names` say that none does.
 use Rattle.std.specs.Prelude.{◌≤◌}
 use Rattle.names.specs.declared.Named.{Named}
 

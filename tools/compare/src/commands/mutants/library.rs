@@ -99,16 +99,13 @@ fn read(file: &Path) -> Result<Edit, String> {
     })
 }
 
-/// Copies what the library is made of, with what is proved of it already, and breaks the rule in the copy.
+/// Copies what the library is made of, and breaks the rule in the copy. What rt keeps of the crates is left out: it takes that from the
+/// checkouts of this machine by itself.
 fn copied(edit: &Edit, copy: &Path) -> Result<(), String> {
     fresh(copy)?;
     let root = crate::root();
-    put(&[root.join("crates"), root.join("crates.txt")], copy)?;
-    let kept = copy.join("target");
-    fresh(&kept)?;
-    let proved = ["rlib", "stamp"].map(|part| root.join("target").join(part));
-    if proved.iter().all(|part| part.is_dir()) {
-        put(&proved, &kept)?;
+    for part in ["crates", "crates.txt", "tools/staticlib"] {
+        put(&root.join(part), &copy.join(part))?;
     }
     for (file, text) in broken(edit)? {
         let file = copy.join(file);
@@ -132,23 +129,26 @@ fn broken(edit: &Edit) -> Result<BTreeMap<&str, String>, String> {
     Ok(files)
 }
 
-/// Copies files and folders into a folder.
-fn put(from: &[PathBuf], to: &Path) -> Result<(), String> {
-    let copied = Command::new("cp").arg("-a").args(from).arg(to).status();
-    match copied {
-        Ok(status) if status.success() => Ok(()),
-        Ok(status) => Err(format!("cp: {status}")),
-        Err(e) => Err(format!("cp: {e}")),
+/// Copies a file, or a folder without the folders `out` in it.
+fn put(from: &Path, to: &Path) -> Result<(), String> {
+    if !from.is_dir() {
+        let folder = to.parent().unwrap_or(to);
+        fs::create_dir_all(folder).map_err(about(folder))?;
+        return fs::copy(from, to).map(drop).map_err(about(from));
     }
+    for entry in fs::read_dir(from).map_err(about(from))? {
+        let name = entry.map_err(about(from))?.file_name();
+        if name != "out" {
+            put(&from.join(&name), &to.join(&name))?;
+        }
+    }
+    Ok(())
 }
 
 /// Proves and builds the library of a copy. Answers whether it was proved.
 fn proved(edit: &Edit, copy: &Path) -> Result<bool, String> {
-    let made = Command::new("rt")
-        .args(["staticlib", "witbox"])
-        .current_dir(copy)
-        .output();
-    let made = made.map_err(|e| format!("rt: {e}"))?;
+    let made = Command::new(copy.join("tools/staticlib")).output();
+    let made = made.map_err(|e| format!("tools/staticlib: {e}"))?;
     let file = log(edit);
     fs::write(&file, [made.stdout, made.stderr].concat()).map_err(about(&file))?;
     Ok(made.status.success())
