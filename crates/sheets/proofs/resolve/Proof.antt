@@ -13,54 +13,54 @@ use Rattle.sheets.proofs.resolve.Statement.{statement}
 use Rattle.sheets.proofs.resolve.Tie as tie
 
 -- the words pass
-words : (c : tie.After-enum-told) → words_verdict c.before.before.before.before.before.before.before.args.sheet.now c.before.before.before.before.before.before.before.args.names.now ≡ Accepted
-words c = sym c.before.before.check-shape.ensures ∙ c.enum_told.given.1
+words : (c : tie.In_default) → words_verdict c.args.sheet.now c.args.names.now ≡ Accepted
+words c = sym c.check_shape.ensures ∙ c.in_default.is
 
-shaped : (c : tie.After-enum-told) → Shaped c.before.before.before.before.before.before.before.args.sheet.now c.before.before.before.before.before.before.before.args.names.now
+shaped : (c : tie.In_default) → Shaped c.args.sheet.now c.args.names.now
 shaped c = words_accepted _ _ (words c)
 
-returns : tie.Need-returns
-returns c = refuse_words _ _ _ _ _ (sym c.before.before.before.check-shape.ensures ∙ c.before.refusal.given.1)
+returns : tie.Need-returns-in-Refused
+returns c = refuse_words _ _ _ _ _ (sym c.check_shape.ensures ∙ c.in-Refused.is)
 
-items-requires : tie.Need-items-requires
+items-requires : tie.Need-items-n-requires
 items-requires c κs = omega (arith, (shaped c).size)
 
-repeated-requires : tie.Need-repeated-requires
-repeated-requires c κs = (shaped c.before.before, c.before.items.ensures.0, omega (arith, c.before.items.ensures.0, (shaped c.before.before).few))
+repeated-requires : tie.Need-repeated-item-requires
+repeated-requires c κs = (shaped c.before.before, c.items-n.ensures.0, omega (arith, c.items-n.ensures.0, (shaped c.before.before).few))
 
-returns-2 : tie.Need-returns-2
-returns-2 c = refuse_repeated _ _ _ _ (words c.before.before.before.before.before) _ c.before.before.repeated.ensures.stops (rw c.before.before.before.before.items.ensures.0 at c.if1.true)
+returns-2 : tie.Need-returns-then-item-n
+returns-2 c = refuse_repeated _ _ _ _ (words c.before.before.before.before.before) _ c.repeated-item.ensures.stops (rw c.items-n.ensures.0 at c.if-item-n.true)
 
-listed-requires : tie.Need-listed-requires
+listed-requires : tie.Need-listed-listed-requires
 listed-requires c κs = omega (arith, (shaped c.before.before.before.before.before).size)
 
-returns-3 : tie.Need-returns-3
-returns-3 c = rw c.before.listed.ensures.0 (refuse_owners _ _ _ _ (words c.before.before.before.before.before.before.before) _ c.before.before.before.before.repeated.ensures.stops (rw c.before.before.before.before.before.before.items.ensures.0 at c.before.before.if1.false) (rw c.before.listed.ensures.0 at c.if2.true))
+returns-3 : tie.Need-returns-then-owners-listed
+returns-3 c = rw c.listed-listed.ensures.0 (refuse_owners _ _ _ _ (words c.before.before.before.before.before.before.before) _ c.repeated-item.ensures.stops (rw c.items-n.ensures.0 at c.if-item-n.false) (rw c.listed-listed.ensures.0 at c.if-owners-listed.true))
 
-returns-4 : tie.Need-returns-4
-returns-4 c = rw c.before.before.listed.ensures.0 (refuse_targets _ _ _ _ (words c.before.before.before.before.before.before.before.before) _ c.before.before.before.before.before.repeated.ensures.stops (rw c.before.before.before.before.before.before.before.items.ensures.0 at c.before.before.before.if1.false) (rw c.before.before.listed.ensures.0 at c.before.if2.false) (rw c.before.before.listed.ensures.0 at c.if3.true))
+returns-4 : tie.Need-returns-then-targets-listed
+returns-4 c = rw c.listed-listed.ensures.0 (refuse_targets _ _ _ _ (words c.before.before.before.before.before.before.before.before) _ c.repeated-item.ensures.stops (rw c.items-n.ensures.0 at c.if-item-n.false) (rw c.listed-listed.ensures.0 at c.if-owners-listed.false) (rw c.listed-listed.ensures.0 at c.if-targets-listed.true))
 
 part-resolve-edges-end : tie.Need-slice-bounds-resolve-edges-end
-part-resolve-edges-end c = omega (arith, c.before.before.before.before.before.before.repeated.auto.1.1.1.0, c.before.before.before.before.before.before.before.before.items.ensures.0, (shaped c.before.before.before.before.before.before.before.before.before).few)
+part-resolve-edges-end c = omega (arith, c.repeated-item.auto.1.1.1.0, c.items-n.ensures.0, (shaped c.before.before.before.before.before.before.before.before.before).few)
 
-resolve-edges-requires : tie.Need-resolve-edges-requires
+resolve-edges-requires : tie.Need-resolve_edges-edge-requires
 resolve-edges-requires c κs = (
-  (shaped c.before.before.before.before.before.before.before.before.before.before.before.before, c.before.before.before.before.before.before.before.before.before.before.before.items.ensures.0, c.before.before.before.before.before.before.listed.ensures.0),
-  (rw (sub-zero) (signed_all _ _ _ _ _ _ c.before.before.before.before.before.before.before.before.before.repeated.ensures c.before.before.before.before.before.before.before.before.before.before.before.items.ensures.0 c.before.before.before.before.before.before.before.if1.false), (c.before.before.before.before.before.if2.false, c.before.before.before.before.if3.false)),
+  (shaped c.before.before.before.before.before.before.before.before.before.before.before.before, c.items-n.ensures.0, c.listed-listed.ensures.0),
+  (rw (sub-zero) (signed_all _ _ _ _ _ _ c.repeated-item.ensures c.items-n.ensures.0 c.if-item-n.false), (c.if-owners-listed.false, c.if-targets-listed.false)),
 )
 
-returns-5 : tie.Need-returns-5
+returns-5 : tie.Need-returns-then-edge-listed
 returns-5 c =
-    refuse_unlisted _ _ _ _ (words c.before.before.before.before.before.before.before.before.before.before.before.before.before.before.before.before.before.before) _ c.before.before.before.before.before.before.before.before.before.before.before.before.before.before.before.repeated.ensures.stops (rw c.before.before.before.before.before.before.before.before.before.before.before.before.before.before.before.before.before.items.ensures.0 at c.before.before.before.before.before.before.before.before.before.before.before.before.before.if1.false) (rw c.before.before.before.before.before.before.before.before.before.before.before.before.listed.ensures.0 at c.before.before.before.before.before.before.before.before.before.before.before.if2.false) (rw c.before.before.before.before.before.before.before.before.before.before.before.before.listed.ensures.0 at c.before.before.before.before.before.before.before.before.before.before.if3.false) _ _ _
-    c.before.before.before.before.before.resolve-edges.ensures (rw c.before.before.before.before.before.before.before.before.before.before.before.before.listed.ensures.0 at c.if4.true)
+    refuse_unlisted _ _ _ _ (words c.before.before.before.before.before.before.before.before.before.before.before.before.before.before.before.before.before) _ c.repeated-item.ensures.stops (rw c.items-n.ensures.0 at c.if-item-n.false) (rw c.listed-listed.ensures.0 at c.if-owners-listed.false) (rw c.listed-listed.ensures.0 at c.if-targets-listed.false) _ _ _
+    c.resolve_edges-edge.ensures (rw c.listed-listed.ensures.0 at c.if-edge-listed.true)
 
-returns-6 : tie.Need-returns-6
+returns-6 : tie.Need-returns
 returns-6 c =
-    accept _ _ _ _ (words c.before.before.before.before.before.before.before.before.before.before.before.before.before.before.before.before.before.before) _ c.before.before.before.before.before.before.before.before.before.before.before.before.before.before.before.repeated.ensures.stops (rw c.before.before.before.before.before.before.before.before.before.before.before.before.before.before.before.before.before.items.ensures.0 at c.before.before.before.before.before.before.before.before.before.before.before.before.before.if1.false) (rw c.before.before.before.before.before.before.before.before.before.before.before.before.listed.ensures.0 at c.before.before.before.before.before.before.before.before.before.before.before.if2.false) (rw c.before.before.before.before.before.before.before.before.before.before.before.before.listed.ensures.0 at c.before.before.before.before.before.before.before.before.before.before.if3.false) _ _ _
-    c.before.before.before.before.before.resolve-edges.ensures (rw c.before.before.before.before.before.before.before.before.before.before.before.before.listed.ensures.0 at c.if4.false)
+    accept _ _ _ _ (words c.before.before.before.before.before.before.before.before.before.before.before.before.before.before.before.before.before) _ c.repeated-item.ensures.stops (rw c.items-n.ensures.0 at c.if-item-n.false) (rw c.listed-listed.ensures.0 at c.if-owners-listed.false) (rw c.listed-listed.ensures.0 at c.if-targets-listed.false) _ _ _
+    c.resolve_edges-edge.ensures (rw c.listed-listed.ensures.0 at c.if-edge-listed.false)
 
-pub resolve-spec : {M : Type 1} → statement M
-resolve-spec =
+pub resolve_spec : {M : Type 1} → statement M
+resolve_spec =
     tie.close
     (tie.spec
     (λ c κs. search rules)

@@ -8,25 +8,25 @@ use Rattle.sheets.proofs.ByteLaws.{none_yet, none_more}
 use Rattle.sheets.proofs.bytes.any_of.Statement.{statement}
 use Rattle.sheets.proofs.bytes.any_of.Tie as tie
 
-abbrev invariant-loop : tie.invariant-loop
+abbrev invariant-loop : tie.invariant-loop-i
 invariant-loop bytes k x any₀ i₀ any i = (i ≤ 16) × (any ≡ 0 → (j : ℕ) → j < i → holds bytes x (k + j) ≡ false)
 
-abbrev decreases-loop : tie.decreases-loop
+abbrev decreases-loop : tie.decreases-loop-i
 decreases-loop bytes k x any₀ i₀ any i = 16 - i
 
-loop-holds : tie.Need-loop-init invariant-loop decreases-loop
+loop-holds : tie.Need-loop-i-init invariant-loop decreases-loop
 loop-holds c = (omega arith, none_yet _ _ _)
 
-loop-again : tie.Need-loop-preserved invariant-loop decreases-loop
-loop-again c = (omega arith, none_more _ _ _ _ _ c.before.before.before.loop.invariant.1 _ c.seen.ensures)
+loop-again : tie.Need-loop-i-preserved invariant-loop decreases-loop
+loop-again c = (omega arith, none_more _ _ _ _ _ c.loop-i.invariant.1 _ c.seen-any.ensures)
 
 returns : tie.Need-returns invariant-loop decreases-loop
 returns c =
-    let e : c.before.loop.i ≡ 16 = omega arith in
-    rw (← e) c.before.loop.invariant.1
+    let e : c.loop-i.i ≡ 16 = omega arith in
+    rw (← e) c.loop-i.invariant.1
 
-pub any-of-spec : {M : Type 1} → statement M
-any-of-spec =
+pub any_of_spec : {M : Type 1} → statement M
+any_of_spec =
     tie.close
     (tie.spec
     invariant-loop

@@ -8,26 +8,26 @@ use Rattle.sheets.proofs.ByteLaws.{skip_more}
 use Rattle.sheets.proofs.bytes.skip.Statement.{statement}
 use Rattle.sheets.proofs.bytes.skip.Tie as tie
 
-abbrev invariant-loop : tie.invariant-loop
+abbrev invariant-loop : tie.invariant-loop-k
 invariant-loop bytes from x k₀ k = (k ≤ length bytes) × (byte_from bytes from x ≡ byte_from bytes k x)
 
-abbrev decreases-loop : tie.decreases-loop
+abbrev decreases-loop : tie.decreases-loop-k
 decreases-loop bytes from x k₀ k = length bytes - k
 
-loop-holds : tie.Need-loop-init invariant-loop decreases-loop
+loop-holds : tie.Need-loop-k-init invariant-loop decreases-loop
 loop-holds c = (search rules, refl)
 
-returns : tie.Need-returns invariant-loop decreases-loop
-returns c = (omega arith, c.before.before.before.loop.invariant.1)
+returns : tie.Need-returns-then-any_of-ne0 invariant-loop decreases-loop
+returns c = (omega arith, c.loop-k.invariant.1)
 
-loop-again : tie.Need-loop-preserved invariant-loop decreases-loop
-loop-again c = (omega arith, c.before.before.before.loop.invariant.1 ∙ skip_more _ _ _ (omega arith) (c.before.any_of.ensures c.if1.false))
+loop-again : tie.Need-loop-k-preserved invariant-loop decreases-loop
+loop-again c = (omega arith, c.loop-k.invariant.1 ∙ skip_more _ _ _ (omega arith) (c.any_of.ensures c.if-any_of-ne0.false))
 
-returns-2 : tie.Need-returns-2 invariant-loop decreases-loop
-returns-2 c = (omega arith, c.before.loop.invariant.1)
+returns-2 : tie.Need-returns invariant-loop decreases-loop
+returns-2 c = (omega arith, c.loop-k.invariant.1)
 
-pub skip-spec : {M : Type 1} → statement M
-skip-spec =
+pub skip_spec : {M : Type 1} → statement M
+skip_spec =
     tie.close
     (tie.spec
     invariant-loop

@@ -7,5 +7,5 @@ use Rattle.sheets.proofs.edges.forgetful.Tie as tie
 returns : tie.Need-returns
 returns c = record { free = λ j h. get_or-replicate {A = ℕ} 512 j 18446744073709551615 0 h; long = refl; wide = refl }
 
-pub forgetful-spec : {M : Type 1} → statement M
-forgetful-spec = tie.close (tie.spec returns)
+pub forgetful_spec : {M : Type 1} → statement M
+forgetful_spec = tie.close (tie.spec returns)

@@ -6,32 +6,32 @@ use borrow.Author.Rules.{rules}
 use Rattle.sheets.proofs.shape.check_shape.Statement.{statement}
 use Rattle.sheets.proofs.shape.check_shape.Tie as tie
 
-returns : tie.Need-returns
+returns : tie.Need-returns-in-Refused
 unfolding words_verdict first_of
-returns c = rw (← c.before.before.before.check-length.ensures, c.before.refusal.given.1)
+returns c = rw (← c.check_length.ensures, c.in-Refused.is)
 
-returns-2 : tie.Need-returns-2
+returns-2 : tie.Need-returns-then-sheet-lt5
 unfolding words_verdict head_verdict first_of
-returns-2 c = rw (← c.before.before.before.check-length.ensures, c.before.enum_told.given.1, lt-leb _ _ c.if1.true)
+returns-2 c = rw (← c.check_length.ensures, c.in_default.is, lt-leb _ _ c.if-sheet-lt5.true)
 
-returns-3 : tie.Need-returns-3
+returns-3 : tie.Need-returns-then-items-gt256
 unfolding words_verdict head_verdict count_verdict first_of
-returns-3 c = rw (← c.before.before.before.before.before.check-length.ensures, c.before.before.before.enum_told.given.1, le-leb _ _ c.before.before.if1.false, ← c.before.items.ensures.0, lt-leb _ _ c.if2.true)
+returns-3 c = rw (← c.check_length.ensures, c.in_default.is, le-leb _ _ c.if-sheet-lt5.false, ← c.items.ensures.0, lt-leb _ _ c.if-items-gt256.true)
 
-returns-4 : tie.Need-returns-4
+returns-4 : tie.Need-returns-then-listed-gt2048
 unfolding words_verdict head_verdict count_verdict first_of
-returns-4 c = rw (← c.before.before.before.before.before.before.before.check-length.ensures, c.before.before.before.before.before.enum_told.given.1, le-leb _ _ c.before.before.before.before.if1.false, ← c.before.before.before.items.ensures.0, le-leb _ _ c.before.before.if2.false, ← c.before.listed.ensures.0, lt-leb _ _ c.if3.true)
+returns-4 c = rw (← c.check_length.ensures, c.in_default.is, le-leb _ _ c.if-sheet-lt5.false, ← c.items.ensures.0, le-leb _ _ c.if-items-gt256.false, ← c.listed.ensures.0, lt-leb _ _ c.if-listed-gt2048.true)
 
-returns-5 : tie.Need-returns-5
+returns-5 : tie.Need-returns-then-not-shape
 unfolding words_verdict head_verdict count_verdict shape_verdict first_of
-returns-5 c = rw (← c.before.before.before.before.before.before.before.before.before.check-length.ensures, c.before.before.before.before.before.before.before.enum_told.given.1, le-leb _ _ c.before.before.before.before.before.before.if1.false, ← c.before.before.before.before.before.items.ensures.0, le-leb _ _ c.before.before.before.before.if2.false, ← c.before.before.before.listed.ensures.0, le-leb _ _ c.before.before.if3.false, sym c.before.shape.ensures ∙ not-true _ c.if4.true)
+returns-5 c = rw (← c.check_length.ensures, c.in_default.is, le-leb _ _ c.if-sheet-lt5.false, ← c.items.ensures.0, le-leb _ _ c.if-items-gt256.false, ← c.listed.ensures.0, le-leb _ _ c.if-listed-gt2048.false, sym c.shape.ensures ∙ not-true _ c.if-not-shape.true)
 
-returns-6 : tie.Need-returns-6
+returns-6 : tie.Need-returns
 unfolding words_verdict head_verdict count_verdict shape_verdict first_of
-returns-6 c = rw (← c.before.before.before.before.before.before.before.before.before.check-length.ensures, c.before.before.before.before.before.before.before.enum_told.given.1, le-leb _ _ c.before.before.before.before.before.before.if1.false, ← c.before.before.before.before.before.items.ensures.0, le-leb _ _ c.before.before.before.before.if2.false, ← c.before.before.before.listed.ensures.0, le-leb _ _ c.before.before.if3.false, sym c.before.shape.ensures ∙ not-false _ c.if4.false)
+returns-6 c = rw (← c.check_length.ensures, c.in_default.is, le-leb _ _ c.if-sheet-lt5.false, ← c.items.ensures.0, le-leb _ _ c.if-items-gt256.false, ← c.listed.ensures.0, le-leb _ _ c.if-listed-gt2048.false, sym c.shape.ensures ∙ not-false _ c.if-not-shape.false)
 
-pub check-shape-spec : {M : Type 1} → statement M
-check-shape-spec =
+pub check_shape_spec : {M : Type 1} → statement M
+check_shape_spec =
     tie.close
     (tie.spec
     (λ c κs. search rules)

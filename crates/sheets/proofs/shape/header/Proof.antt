@@ -4,24 +4,24 @@ use borrow.Author.Rules.{rules}
 use Rattle.sheets.proofs.shape.header.Statement.{statement}
 use Rattle.sheets.proofs.shape.header.Tie as tie
 
-returns : tie.Need-returns
+returns : tie.Need-returns-then-sheet-ne5
 unfolding headed
-returns c = rw (ne_eqb _ _ c.if1.true)
+returns c = rw (ne_eqb _ _ c.if-sheet-ne5.true)
 
-returns-2 : tie.Need-returns-2
+returns-2 : tie.Need-returns-then-word-items_end
 unfolding headed
-returns-2 c = rw (eq-eqb _ _ c.before.before.if1.false, ← c.before.word.ensures.0, ← c.before.before.before.before.before.items.ensures.0, ne_eqb _ _ c.if2.true)
+returns-2 c = rw (eq-eqb _ _ c.if-sheet-ne5.false, ← c.word.ensures.0, ← c.items.ensures.0, ne_eqb _ _ c.if-word-items_end.true)
 
-returns-3 : tie.Need-returns-3
+returns-3 : tie.Need-returns-then-word-rows_end
 unfolding headed
-returns-3 c = rw (eq-eqb _ _ c.before.before.before.before.if1.false, ← c.before.before.before.word.ensures.0, ← c.before.word2.ensures.0, ← c.before.before.before.before.before.before.before.items.ensures.0, ← c.before.before.before.before.before.before.listed.ensures.0, eq-eqb _ _ c.before.before.if2.false, ne_eqb _ _ c.if3.true)
+returns-3 c = rw (eq-eqb _ _ c.if-sheet-ne5.false, ← c.word.ensures.0, ← c.word-2.ensures.0, ← c.items.ensures.0, ← c.listed.ensures.0, eq-eqb _ _ c.if-word-items_end.false, ne_eqb _ _ c.if-word-rows_end.true)
 
-returns-4 : tie.Need-returns-4
+returns-4 : tie.Need-returns
 unfolding headed
-returns-4 c = rw (eq-eqb _ _ c.before.before.before.before.if1.false, ← c.before.before.before.word.ensures.0, ← c.before.word2.ensures.0, ← c.before.before.before.before.before.before.before.items.ensures.0, ← c.before.before.before.before.before.before.listed.ensures.0, eq-eqb _ _ c.before.before.if2.false, eq-eqb _ _ c.if3.false)
+returns-4 c = rw (eq-eqb _ _ c.if-sheet-ne5.false, ← c.word.ensures.0, ← c.word-2.ensures.0, ← c.items.ensures.0, ← c.listed.ensures.0, eq-eqb _ _ c.if-word-items_end.false, eq-eqb _ _ c.if-word-rows_end.false)
 
-pub header-spec : {M : Type 1} → statement M
-header-spec =
+pub header_spec : {M : Type 1} → statement M
+header_spec =
     tie.close
     (tie.spec
     (λ c κs. search rules)

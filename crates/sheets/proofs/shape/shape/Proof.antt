@@ -9,29 +9,29 @@ use borrow.Author.Rules.{rules}
 use Rattle.sheets.proofs.shape.shape.Statement.{statement}
 use Rattle.sheets.proofs.shape.shape.Tie as tie
 
-size : (c : tie.Else1) → length c.before.before.before.before.args.sheet.now ≡ 5 + 4 * get_or c.before.before.before.before.args.sheet.now 0 0 + 4 * get_or c.before.before.before.before.args.sheet.now 1 0
-size c = headed_size _ c.before.before.before.before.args.names.now (sym c.before.header.ensures ∙ not-false _ c.if1.false)
+size : (c : tie.Else-not-header) → length c.args.sheet.now ≡ 5 + 4 * get_or c.args.sheet.now 0 0 + 4 * get_or c.args.sheet.now 1 0
+size c = headed_size _ c.args.names.now (sym c.header.ensures ∙ not-false _ c.if-not-header.false)
 
-returns : tie.Need-returns
+returns : tie.Need-returns-then-not-header
 unfolding shaped
-returns c = rw (sym c.before.header.ensures ∙ not-true _ c.if1.true)
+returns c = rw (sym c.header.ensures ∙ not-true _ c.if-not-header.true)
 
-runs-on-requires : tie.Need-runs-on-requires
-runs-on-requires c κs = (c.before.before.before.before.requires, omega (arith, size c))
+runs-on-requires : tie.Need-runs_on-requires
+runs-on-requires c κs = (c.requires, omega (arith, size c))
 
-returns-2 : tie.Need-returns-2
+returns-2 : tie.Need-returns-then-not-runs_on
 unfolding shaped
-returns-2 c = rw (sym c.before.before.before.header.ensures ∙ not-false _ c.before.before.if1.false, sym c.before.runs_on.ensures ∙ not-true _ c.if2.true)
+returns-2 c = rw (sym c.header.ensures ∙ not-false _ c.if-not-header.false, sym c.runs_on.ensures ∙ not-true _ c.if-not-runs_on.true)
 
-first-outside-requires : tie.Need-first-outside-requires
-first-outside-requires c κs = (c.before.before.before.before.before.before.before.before.requires, rw (c.before.items.ensures.0, c.listed.ensures.0), omega (arith, size c.before.before.before.before, c.before.items.ensures.0, c.listed.ensures.0))
+first-outside-requires : tie.Need-first_outside-requires
+first-outside-requires c κs = (c.requires, rw (c.items.ensures.0, c.listed.ensures.0), omega (arith, size c.before.before.before.before, c.items.ensures.0, c.listed.ensures.0))
 
-returns-3 : tie.Need-returns-3
+returns-3 : tie.Need-returns
 unfolding shaped
-returns-3 c = rw (sym c.before.before.before.before.before.before.header.ensures ∙ not-false _ c.before.before.before.before.before.if1.false, sym c.before.before.before.before.runs_on.ensures ∙ not-false _ c.before.before.before.if2.false, ← c.first-outside.ensures, ← c.before.before.items.ensures.0, ← c.before.listed.ensures.0)
+returns-3 c = rw (sym c.header.ensures ∙ not-false _ c.if-not-header.false, sym c.runs_on.ensures ∙ not-false _ c.if-not-runs_on.false, ← c.first_outside.ensures, ← c.items.ensures.0, ← c.listed.ensures.0)
 
-pub shape-spec : {M : Type 1} → statement M
-shape-spec =
+pub shape_spec : {M : Type 1} → statement M
+shape_spec =
     tie.close
     (tie.spec
     (λ c κs. search rules)
