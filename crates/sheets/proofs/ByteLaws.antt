@@ -8,7 +8,7 @@ use native.Mathlib.Nat.{eq-or-lt_of_le}
 use native.Mathlib.Omega.{arith}
 use lib.ListN.{length, get_or}
 use lib.Dec.{eqb}
-use Rattle.terms.specs.Terms.{if◌then◌else◌, first}
+use Rattle.terms.specs.Terms.{if◌then◌else◌}
 use Rattle.terms.proofs.FirstLaws.{first_skip}
 use Rattle.sheets.specs.inner.Bytes.{holds, byte_from}
 

@@ -2,7 +2,6 @@ use mathlib.Core.Path.{◌≡◌, sym, ◌∙◌}
 use native.Mathlib.Omega.{arith}
 use native.Mathlib.Nat.{sub-zero}
 use Rattle.answers.specs.declared.Verdict.TheVariants.{Accepted}
-use Rattle.sheets.specs.Words.{items, listed}
 use Rattle.sheets.specs.Checks.{words_verdict}
 use Rattle.sheets.specs.inner.Asked.{Shaped}
 use Rattle.sheets.proofs.CheckLaws.{words_accepted}
@@ -40,12 +39,12 @@ returns-3 c = rw c.listed-listed.ensures.0 (refuse_owners _ _ _ _ (words c.befor
 returns-4 : tie.Need-returns-then-targets-listed
 returns-4 c = rw c.listed-listed.ensures.0 (refuse_targets _ _ _ _ (words c.before.before.before.before.before.before.before.before) _ c.repeated-item.ensures.stops (rw c.items-n.ensures.0 at c.if-item-n.false) (rw c.listed-listed.ensures.0 at c.if-owners-listed.false) (rw c.listed-listed.ensures.0 at c.if-targets-listed.true))
 
-part-resolve-edges-end : tie.Need-slice-bounds-resolve-edges-end
-part-resolve-edges-end c = omega (arith, c.repeated-item.auto.1.1.1.0, c.items-n.ensures.0, (shaped c.before.before.before.before.before.before.before.before.before).few)
+part-resolve-edges-end : tie.Need-slice_bounds-resolve_edges-end
+part-resolve-edges-end c = omega (arith, c.repeated-item.auto.signatures, c.items-n.ensures.0, (shaped c.before.before.before.before.before.before.before.before).few)
 
 resolve-edges-requires : tie.Need-resolve_edges-edge-requires
 resolve-edges-requires c κs = (
-  (shaped c.before.before.before.before.before.before.before.before.before.before.before.before, c.items-n.ensures.0, c.listed-listed.ensures.0),
+  (shaped c.before.before.before.before.before.before.before.before.before.before.before, c.items-n.ensures.0, c.listed-listed.ensures.0),
   (rw (sub-zero) (signed_all _ _ _ _ _ _ c.repeated-item.ensures c.items-n.ensures.0 c.if-item-n.false), (c.if-owners-listed.false, c.if-targets-listed.false)),
 )
 

@@ -1,7 +1,6 @@
 -- Edge by edge: the edges before k name items, the tables have their items and targets, and the memo has only ranges whose item the search found.
 use Prim.Native.Nat.{ℕ, ◌+◌, ◌-◌, ◌≤◌, ◌<◌}
 use mathlib.Core.Path.{◌≡◌, refl, sym, ap, ◌∙◌}
-use mathlib.Core.Logic.{⊎_elim}
 use mathlib.Core.List.{List}
 use native.Mathlib.Omega.{arith}
 use lib.ListN.{length, get_or, length-set}
@@ -19,6 +18,7 @@ use Rattle.sheets.proofs.EdgeLaws.{over_none, over_more, owner_on, target_below}
 use Rattle.sheets.proofs.NameLaws.{remembers_none, remembers_more}
 use Rattle.sheets.proofs.edges.resolve_edges.Statement.{statement}
 use Rattle.sheets.proofs.edges.resolve_edges.Tie as tie
+use Rattle.sheets.proofs.edges.resolve_edges.Lts.{then-memo-j+else-t-n, else-memo-j}
 
 -- before edge k, whose item is o or a later one
 record Upto (sheet names : List ℕ) (n listed : ℕ) (owners₀ targets₀ owners targets : List ℕ) (memo : Memo) (o k : ℕ) : Type 0 where
@@ -84,19 +84,19 @@ learnt c =
     let n-is : (top r).args.n ≡ items (sheet r) = (top r).requires.0.1 in
     let at-short : at ≤ 65536 = omega (arith, name_in r, (top r).requires.0.0.short) in
     let size-short : size ≤ 65536 = omega (arith, name_in r, (top r).requires.0.0.short) in
-    ⊎_elim
-    (λ w.
-    let t : w.1.result ≡ target_of (sheet r) (names r) (k r) = w.1.ensures ∙ is-target r in
-    let b : w.1.result < items (sheet r) = omega (arith, w.2.left, target_below (sheet r) (names r) (k r)) in
-    rw w.3 (
-      remembers_more _ _ _ _ at size _ known slot.ensures at-short size-short w.1.ensures b,
-      get_or-set_same (turn r).loop-k.memo.item slot.result w.1.result 0 (omega (arith, known.wide, slot.ensures)) ∙ t,
-      omega arith,
-    ))
-    (λ w.
-    let old = known.right slot.result at size slot.ensures at-short size-short w.0.left in
-    rw w.1 (known, sym old.0 ∙ is-target r, omega (arith, old.0, old.1, is-target r)))
-    c.if-memo-j.branch
+    elim c.if-memo-j.branch [
+      | then-memo-j+else-t-n w ↦
+          let t : w.look_up-t.result ≡ target_of (sheet r) (names r) (k r) = w.look_up-t.ensures ∙ is-target r in
+          let b : w.look_up-t.result < items (sheet r) = omega (arith, w.if-t-n.false, target_below (sheet r) (names r) (k r)) in
+          rw w.memo-is (
+            remembers_more _ _ _ _ at size _ known slot.ensures at-short size-short w.look_up-t.ensures b,
+            get_or-set_same (turn r).loop-k.memo.item slot.result w.look_up-t.result 0 (omega (arith, known.wide, slot.ensures)) ∙ t,
+            omega arith,
+          )
+      | else-memo-j w ↦
+          let old = known.right slot.result at size slot.ensures at-short size-short w.if-memo-j.false in
+          rw w.memo-is (known, sym old.0 ∙ is-target r, omega (arith, old.0, old.1, is-target r))
+    ]
 
 -- the answer of `owner` is the item of edge k
 is-owner : (c : tie.After-owner-o invariant-loop decreases-loop)
@@ -104,7 +104,7 @@ is-owner : (c : tie.After-owner-o invariant-loop decreases-loop)
     (c.owner-o.result ≡ first (reaches (sheet r) (k r)) 0 (top r).args.n) × (c.owner-o.result < (top r).args.n)
 is-owner c =
     let r : Read = c.before.before.before.before in
-    let is : c.owner-o.result ≡ first (reaches (sheet r) (k r)) 0 (top r).args.n = c.owner-o.ensures ∙ sym (turn r).loop-k.invariant.owner-o in
+    let is : c.owner-o.result ≡ first (reaches (sheet r) (k r)) 0 (top r).args.n = c.owner-o.ensures ∙ sym (turn r).loop-k.invariant.owner in
     let below : first (reaches (sheet r) (k r)) 0 (top r).args.n < (top r).args.n =
     simp (top r).requires.0.1 ((top r).requires.0.0.owned (k r) (omega (arith, (top r).requires.0.2))) in
     (is, omega arith)
@@ -211,8 +211,8 @@ resolve_edges_spec =
     (λ c. search rules)
     (λ c κs. search rules)
     (λ c κs. omega (arith, name_in c, (top c).requires.0.0.short))
-    (λ c. omega (arith, name_in c.before, (top c.before).pre.0.0.short))
-    (λ c. omega (arith, name_in c.before, (top c.before).pre.0.0.short))
+    (λ c. omega (arith, name_in c.before, (top c.before).requires.0.0.short))
+    (λ c. omega (arith, name_in c.before, (top c.before).requires.0.0.short))
     (λ c. omega (arith, c.slot-j.ensures))
     (λ c. c.slot-j.ensures)
     look-up-requires

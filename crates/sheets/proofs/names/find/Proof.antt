@@ -32,7 +32,7 @@ loop-holds c =
     let f = found_on _ _ _ _ 0 _ _ c.requires.1.0.1 c.requires.1.1 (omega arith) c.byte_from-i.ensures in
     (f.0, first_start _ _ ∙ f.1)
 
-part-same-end : tie.Need-slice-bounds-same-end invariant-loop decreases-loop
+part-same-end : tie.Need-slice_bounds-same-end invariant-loop decreases-loop
 part-same-end c = omega (arith, name_in c)
 
 returns : tie.Need-returns-then-same invariant-loop decreases-loop

@@ -28,10 +28,10 @@ name_in : (c : tie.After-word-size invariant-loop decreases-loop) → c.word-at.
 name_in c = rw (c.word-at.ensures.0, c.word-size.ensures.0) (c.requires.0.inside c.loop-i.i (omega (arith, c.requires.1)))
 
 -- the signatures of the items before i
-front : (c : tie.After-signatures invariant-loop decreases-loop) → take (c.loop-i.i - 0) c.loop-i.signatures ≡ signatures_of c.args.sheet.now c.args.names.now c.loop-i.i
+front : (c : tie.After-signature-s invariant-loop decreases-loop) → take (c.loop-i.i - 0) c.loop-i.signatures ≡ signatures_of c.args.sheet.now c.args.names.now c.loop-i.i
 front c = rw (sub-zero c.loop-i.i, c.loop-i.invariant.3) (over_front _ _ _)
 
-size_is : (c : tie.After-signatures invariant-loop decreases-loop) → length (take (c.loop-i.i - 0) c.loop-i.signatures) ≡ c.loop-i.i
+size_is : (c : tie.After-signature-s invariant-loop decreases-loop) → length (take (c.loop-i.i - 0) c.loop-i.signatures) ≡ c.loop-i.i
 size_is c = ap length (front c) ∙ table_length _ _ _
 
 is-signature : (c : tie.After-signature-s invariant-loop decreases-loop) → c.signature-s.result ≡ signature_of (name_of c.args.sheet.now c.args.names.now c.loop-i.i)
@@ -43,7 +43,7 @@ is_found c = c.find.ensures ∙ rw (size_is c.before.before, c.word-at.ensures.0
 loop-holds : tie.Need-loop-i-init invariant-loop decreases-loop
 loop-holds c = (search rules, first_start _ _, refl, over_none _ _)
 
-part-signature-end : tie.Need-slice-bounds-signature-end invariant-loop decreases-loop
+part-signature-end : tie.Need-slice_bounds-signature-end invariant-loop decreases-loop
 part-signature-end c = omega (arith, name_in c)
 
 signature-requires : tie.Need-signature-s-requires invariant-loop decreases-loop
@@ -51,7 +51,7 @@ signature-requires c κs = simp (length-take, length-drop) (omega (arith, c.requ
 
 find-requires : tie.Need-find-requires invariant-loop decreases-loop
 find-requires c κs = (
-  (c.requires.0, omega (arith, name_in c.before.before.before.before)),
+  (c.requires.0, omega (arith, name_in c.before.before.before)),
   (
     (
       omega (arith, size_is c.before, c.requires.1),

@@ -1,5 +1,5 @@
 use mathlib.Core.Path.{sym, ◌∙◌}
-use borrow.Author.Tests.{le-leb, lt-leb, not-true, not-false}
+use borrow.Author.Tests.{le-leb, lt-leb}
 use Rattle.answers.specs.Caps.{first_of}
 use Rattle.sheets.specs.Checks.{head_verdict, count_verdict, shape_verdict, words_verdict}
 use borrow.Author.Rules.{rules}
@@ -24,11 +24,11 @@ returns-4 c = rw (← c.check_length.ensures, c.in_default.is, le-leb _ _ c.if-s
 
 returns-5 : tie.Need-returns-then-not-shape
 unfolding words_verdict head_verdict count_verdict shape_verdict first_of
-returns-5 c = rw (← c.check_length.ensures, c.in_default.is, le-leb _ _ c.if-sheet-lt5.false, ← c.items.ensures.0, le-leb _ _ c.if-items-gt256.false, ← c.listed.ensures.0, le-leb _ _ c.if-listed-gt2048.false, sym c.shape.ensures ∙ not-true _ c.if-not-shape.true)
+returns-5 c = rw (← c.check_length.ensures, c.in_default.is, le-leb _ _ c.if-sheet-lt5.false, ← c.items.ensures.0, le-leb _ _ c.if-items-gt256.false, ← c.listed.ensures.0, le-leb _ _ c.if-listed-gt2048.false, sym c.shape.ensures ∙ c.if-not-shape.true)
 
 returns-6 : tie.Need-returns
 unfolding words_verdict head_verdict count_verdict shape_verdict first_of
-returns-6 c = rw (← c.check_length.ensures, c.in_default.is, le-leb _ _ c.if-sheet-lt5.false, ← c.items.ensures.0, le-leb _ _ c.if-items-gt256.false, ← c.listed.ensures.0, le-leb _ _ c.if-listed-gt2048.false, sym c.shape.ensures ∙ not-false _ c.if-not-shape.false)
+returns-6 c = rw (← c.check_length.ensures, c.in_default.is, le-leb _ _ c.if-sheet-lt5.false, ← c.items.ensures.0, le-leb _ _ c.if-items-gt256.false, ← c.listed.ensures.0, le-leb _ _ c.if-listed-gt2048.false, sym c.shape.ensures ∙ c.if-not-shape.false)
 
 pub check_shape_spec : {M : Type 1} → statement M
 check_shape_spec =
