@@ -12,5 +12,5 @@ returns c = record {
   long = refl;
 }
 
-pub blank-spec : {M : Type 1} → statement M
-blank-spec = tie.close (tie.spec returns)
+pub blank_spec : {M : Type 1} → statement M
+blank_spec = tie.close (tie.spec returns)

@@ -9,28 +9,28 @@ use Rattle.clerk.specs.inner.State.{free}
 use Rattle.clerk.proofs.placing.next_item.Statement.{statement}
 use Rattle.clerk.proofs.placing.next_item.Tie as tie
 
-abbrev invariant-loop : tie.invariant-loop
+abbrev invariant-loop : tie.invariant-loop-i
 invariant-loop left n i₀ i = (i ≤ n) × (first (free left) 0 n ≡ first (free left) i (n - i))
 
-abbrev decreases-loop : tie.decreases-loop
+abbrev decreases-loop : tie.decreases-loop-i
 decreases-loop left n i₀ i = n - i
 
-loop-holds : tie.Need-loop-init invariant-loop decreases-loop
+loop-holds : tie.Need-loop-i-init invariant-loop decreases-loop
 loop-holds c = (search rules, first_start _ _)
 
-returns : tie.Need-returns invariant-loop decreases-loop
+returns : tie.Need-returns-then-left-i-eq0 invariant-loop decreases-loop
 unfolding free
-returns c = sym (c.before.before.before.loop.invariant.1 ∙ first_hit _ _ _ (omega arith) (eq-eqb _ _ c.if1.true))
+returns c = sym (c.loop-i.invariant.1 ∙ first_hit _ _ _ (omega arith) (eq-eqb _ _ c.if-left-i-eq0.true))
 
-loop-again : tie.Need-loop-preserved invariant-loop decreases-loop
+loop-again : tie.Need-loop-i-preserved invariant-loop decreases-loop
 unfolding free
-loop-again c = (omega arith, c.before.before.before.loop.invariant.1 ∙ first_miss _ _ _ (omega arith) (ne_eqb _ _ c.if1.false))
+loop-again c = (omega arith, c.loop-i.invariant.1 ∙ first_miss _ _ _ (omega arith) (ne_eqb _ _ c.if-left-i-eq0.false))
 
-returns-2 : tie.Need-returns-2 invariant-loop decreases-loop
-returns-2 c = sym (c.before.loop.invariant.1 ∙ first_end _ _ _ c.loop-test.false)
+returns-2 : tie.Need-returns invariant-loop decreases-loop
+returns-2 c = sym (c.loop-i.invariant.1 ∙ first_end _ _ _ c.loop-i-test.false)
 
-pub next-item-spec : {M : Type 1} → statement M
-next-item-spec =
+pub next_item_spec : {M : Type 1} → statement M
+next_item_spec =
     tie.close
     (tie.spec
     invariant-loop

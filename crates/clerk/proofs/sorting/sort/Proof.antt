@@ -9,19 +9,19 @@ use borrow.Author.Rules.{rules}
 use Rattle.clerk.proofs.sorting.sort.Statement.{statement}
 use Rattle.clerk.proofs.sorting.sort.Tie as tie
 
-returns : tie.Need-returns
-returns c = ends_ordered _ _ _ c.before.before.before.before.before.before.run.ensures _ _ c.before.before.before.before.if1.true c.before.before.write-order.ensures
+returns : tie.Need-returns-then-s-n
+returns c = ends_ordered _ _ _ c.run-s.ensures _ _ c.if-s-n.true c.write_order.ensures
 
-cast-t13 : tie.Need-overflow-cast-t13
+cast-t13 : tie.Need-overflow_cast-result
 cast-t13 c =
-    let es = edges c.before.before.before.before.before.before.before.args.owners.now c.before.before.before.before.before.before.before.args.targets.now in
-    omega (arith, c.first-stuck.ensures, first_le (stuck_at es (placed_of c.before.before.before.run.result)) (length es) 0, edges_length c.before.before.before.before.before.before.before.args.owners.now c.before.before.before.before.before.before.before.args.targets.now c.before.before.before.before.before.before.before.requires.0.even, c.before.before.before.before.before.before.before.requires.0.few)
+    let es = edges c.args.owners.now c.args.targets.now in
+    omega (arith, c.first_stuck-edge.ensures, first_le (stuck_at es (placed_of c.run-s.result)) (length es) 0, edges_length c.args.owners.now c.args.targets.now c.requires.0.even, c.requires.0.few)
 
-returns-2 : tie.Need-returns-2
-returns-2 c = ends_stuck _ _ _ c.before.before.before.run.ensures _ c.before.if1.false _ c.first-stuck.ensures
+returns-2 : tie.Need-returns
+returns-2 c = ends_stuck _ _ _ c.run-s.ensures _ c.if-s-n.false _ c.first_stuck-edge.ensures
 
-pub sort-spec : {M : Type 1} → statement M
-sort-spec =
+pub sort_spec : {M : Type 1} → statement M
+sort_spec =
     tie.close
     (tie.spec
     (λ c κs. search rules)
