@@ -19,7 +19,7 @@ use Rattle.answers.specs.declared.Refusal.{Refusal}
 use Rattle.answers.specs.declared.Refusal.TheVariants.{TypeCycle}
 use Rattle.answers.specs.Caps.{first_of}
 use Rattle.answers.proofs.CapsLaws.{first_both, refused_not}
-use Rattle.graph.specs.Order.{Edge, edges, no_edge, order, is_settled, settled, is_stuck, stuck_at, first_stuck}
+use Rattle.graph.specs.Order.{Edge, no_edge, order, is_settled, settled, is_stuck, stuck_at, first_stuck}
 use Rattle.graph.specs.Chain.{Acyclic, Targeted, Permutation, Ordered}
 use Rattle.graph.proofs.OrderLaws.{edges_at, edges_length}
 use Rattle.graph.proofs.Acyclic.{whole_acyclic, acyclic_whole, whole_permutation, order_ordered, stuck_is_listed}

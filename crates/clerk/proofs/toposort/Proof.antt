@@ -19,10 +19,10 @@ ok c = sym (tables_verdict_lem _ _ _ _ (omega arith) (omega arith)) ∙ sym c.re
 accepts : (c : tie.In_default) → Accepts c.args.sheet.now c.args.names.now
 accepts c = accepts_of _ _ (ok c)
 
-owners-part : (c : tie.In_default) → take (listed c.args.sheet.now) c.resolve.new.1.1.0 ≡ owners_of c.args.sheet.now (listed c.args.sheet.now)
+owners-part : (c : tie.In_default) → take (listed c.args.sheet.now) c.resolve.new.owners ≡ owners_of c.args.sheet.now (listed c.args.sheet.now)
 owners-part c = owners_are _ _ _ _ (omega arith) (omega arith) (ok c) _ _ _ c.resolve.ensures
 
-targets-part : (c : tie.In_default) → take (listed c.args.sheet.now) c.resolve.new.1.1.1.0 ≡ targets_of c.args.sheet.now c.args.names.now (listed c.args.sheet.now)
+targets-part : (c : tie.In_default) → take (listed c.args.sheet.now) c.resolve.new.targets ≡ targets_of c.args.sheet.now c.args.names.now (listed c.args.sheet.now)
 targets-part c = targets_are _ _ _ _ (omega arith) (omega arith) (ok c) _ _ _ c.resolve.ensures
 
 returns : tie.Need-returns-in-Refused
@@ -46,14 +46,14 @@ shared-slice-read-t20 c = omega (arith, (accepts c.before.before.before.before).
 returns-2 : tie.Need-returns-then-order-n
 returns-2 c = rw c.refused-then-order-n.ensures (refuse_room _ _ _ (ok c.before.before.before.before.before) c.if-order-n.true)
 
-part-sort-end : tie.Need-slice-bounds-sort-end
-part-sort-end c = omega (arith, (accepts c.before.before.before.before).shape.few_edges, c.resolve.auto.1.1.0)
+part-sort-end : tie.Need-slice_bounds-sort-end
+part-sort-end c = omega (arith, (accepts c.before.before.before).shape.few_edges, c.resolve.auto.owners)
 
-part-sort-end-2 : tie.Need-slice-bounds-sort-end-2
-part-sort-end-2 c = omega (arith, (accepts c.before.before.before.before.before.before).shape.few_edges, c.resolve.auto.1.1.1.0)
+part-sort-end-2 : tie.Need-slice_bounds-sort-end-2
+part-sort-end-2 c = omega (arith, (accepts c.before.before.before.before).shape.few_edges, c.resolve.auto.targets)
 
 sort-requires : tie.Need-sort-requires
-sort-requires c κs = (rw (sub-zero) (rows_of _ _ _ _ (accepts c.before.before.before.before.before.before.before.before) (owners-part c.before.before.before.before.before.before.before.before) (targets-part c.before.before.before.before.before.before.before.before)), (accepts c.before.before.before.before.before.before.before.before).shape.few, c.if-order-n.false)
+sort-requires c κs = (rw (sub-zero) (rows_of _ _ _ _ (accepts c.before.before.before.before.before.before) (owners-part c.before.before.before.before.before.before) (targets-part c.before.before.before.before.before.before)), (accepts c.before.before.before.before.before.before).shape.few, c.if-order-n.false)
 
 returns-3 : tie.Need-returns
 returns-3 c = accept _ _ _ (ok c.before.before.before.before.before.before.before.before.before) c.if-order-n.false _ _ (owners-part c.before.before.before.before.before.before.before.before.before) (targets-part c.before.before.before.before.before.before.before.before.before) _ _ (rw (sub-zero) at c.sort.ensures)

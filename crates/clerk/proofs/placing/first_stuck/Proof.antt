@@ -1,7 +1,6 @@
 use Prim.Native.Nat.{◌-◌, ◌≤◌, ◌<◌}
 use mathlib.Core.Path.{◌≡◌, sym, ◌∙◌}
 use mathlib.Core.Bool.{and-false}
-use mathlib.Core.Logic.{⊎_elim}
 use native.Mathlib.Omega.{arith}
 use lib.ListN.{length, get_or}
 use borrow.Author.Rules.{rules}
@@ -13,6 +12,7 @@ use Rattle.clerk.specs.inner.State.{placed_of}
 use Rattle.clerk.proofs.StateLaws.{unplaced, is_placed}
 use Rattle.clerk.proofs.placing.first_stuck.Statement.{statement}
 use Rattle.clerk.proofs.placing.first_stuck.Tie as tie
+use Rattle.clerk.proofs.placing.first_stuck.Lts.{then-s-o-lt4096+else-s-t-lt4096, else-s-o-lt4096}
 
 abbrev invariant-loop : tie.invariant-loop-k
 invariant-loop owners targets s k₀ k = (k ≤ length owners) × (first_stuck (edges owners targets) (placed_of s) ≡ first (stuck_at (edges owners targets) (placed_of s)) k (length (edges owners targets) - k))
@@ -58,7 +58,13 @@ returns : tie.Need-returns-then-s-t-lt4096 invariant-loop decreases-loop
 returns c = sym (c.loop-k.invariant.1 ∙ first_hit _ _ _ (in-edges c.before.before.before.before.before.before) (rw (edge_at c.before.before.before.before.before.before, unplaced _ _ c.requires.1 _ (own c.before.before.before.before.before.before) c.if-s-o-lt4096.true, unplaced _ _ c.requires.1 _ (aim c.before.before.before.before.before.before) c.if-s-t-lt4096.true)))
 
 loop-again : tie.Need-loop-k-preserved invariant-loop decreases-loop
-loop-again c = (omega arith, c.loop-k.invariant.1 ∙ first_miss _ _ _ (in-edges c.before.before.before.before) (rw (edge_at c.before.before.before.before) (⊎_elim (λ w. rw (is_placed _ _ c.requires.1 _ (aim c.before.before.before.before) w.2.left, and-false)) (λ w. rw (is_placed _ _ c.requires.1 _ (own c.before.before.before.before) w.left)) c.if-s-o-lt4096.branch)))
+loop-again c = (
+  omega arith,
+  c.loop-k.invariant.1 ∙ first_miss _ _ _ (in-edges c.before.before.before.before) (rw (edge_at c.before.before.before.before) (elim c.if-s-o-lt4096.branch [
+    | then-s-o-lt4096+else-s-t-lt4096 w ↦ rw (is_placed _ _ c.requires.1 _ (aim c.before.before.before.before) w.if-s-t-lt4096.false, and-false)
+    | else-s-o-lt4096 w ↦ rw (is_placed _ _ c.requires.1 _ (own c.before.before.before.before) w.if-s-o-lt4096.false)
+  ])),
+)
 
 returns-2 : tie.Need-returns invariant-loop decreases-loop
 returns-2 c = sym (c.loop-k.invariant.1 ∙ first_end _ _ _ (rw (edges_length _ _ c.requires.0.even) c.loop-k-test.false))

@@ -35,7 +35,7 @@ own c = c.requires.0.owners _ (in_owners c)
 x_below : (c : tie.In-loop-k invariant-loop decreases-loop) → c.args.x < 256
 x_below c = omega (arith, c.ranges.x)
 
-some_left : (c : tie.In-loop-k invariant-loop decreases-loop) → 1 ≤ get_or c.loop-k.t-1.left (get_or c.args.owners.now c.loop-k.k 0) 0
+some_left : (c : tie.In-loop-k invariant-loop decreases-loop) → 1 ≤ get_or c.loop-k.t.left (get_or c.args.owners.now c.loop-k.k 0) 0
 some_left c =
     taking_some _ _ _ _ _ _ _ c.loop-k.invariant.0.taking _ _ (in-edges c) (edge_at c) (own c) (c.loop-k.invariant.0.named c.loop-k-test.true)
     (enough _ _ _ c.requires.1.0 c.requires.1.1 (x_below c) c.requires.1.2 _ (own c))

@@ -26,7 +26,7 @@ below : (c : tie.Else-i-n invariant-loop decreases-loop) → c.next_item-i.resul
 below c = omega (arith, c.if-i-n.false, is-next c.before, first_le (ready (edges c.args.owners.now c.args.targets.now) (placed_of c.loop-s.s)) c.args.n 0)
 
 loop-holds : tie.Need-loop-s-init invariant-loop decreases-loop
-loop-holds c = (c.start-s.ensures.0, omega arith, rw (c.start-s.ensures.1, sub-zero), search (rules, c.start-s.type-inv))
+loop-holds c = (c.start-s.ensures.0, omega arith, rw (c.start-s.ensures.1, sub-zero), search (rules, c.start-s.type_inv))
 
 returns : tie.Need-returns-then-i-n invariant-loop decreases-loop
 returns c = ran_of _ _ _ c.loop-s.invariant.0 c.loop-s.invariant.1 c.loop-s.invariant.3 (run_stop _ _ c.loop-s.s c.loop-s.invariant.2 (omega (arith, is-next c.before, c.if-i-n.true)))
@@ -41,7 +41,7 @@ loop-less : tie.Need-loop-s-smaller invariant-loop decreases-loop
 loop-less c = omega (arith, c.place-s.ensures.more)
 
 loop-again : tie.Need-loop-s-preserved invariant-loop decreases-loop
-loop-again c = (c.place-s.ensures.tracks, omega (arith, c.place-s.ensures.more), run_more _ _ c.loop-s.s _ _ c.loop-s.invariant.2 (omega arith) (is-next c.before.before) (below c.before) c.place-s.ensures, search (rules, c.place-s.type-inv))
+loop-again c = (c.place-s.ensures.tracks, omega (arith, c.place-s.ensures.more), run_more _ _ c.loop-s.s _ _ c.loop-s.invariant.2 (omega arith) (is-next c.before.before) (below c.before) c.place-s.ensures, search (rules, c.place-s.type_inv))
 
 returns-2 : tie.Need-returns invariant-loop decreases-loop
 returns-2 c = ran_of _ _ _ c.loop-s.invariant.0 c.loop-s.invariant.1 c.loop-s.invariant.3 (run_full _ _ c.loop-s.s c.loop-s.invariant.2 (omega arith))
