@@ -1,6 +1,7 @@
 use Prim.Native.Nat.{◌-◌, ◌≤◌, ◌<◌}
 use mathlib.Core.Path.{◌≡◌, sym, ◌∙◌}
 use mathlib.Core.Bool.{and-false}
+use mathlib.Core.Logic.{⊎_elim}
 use native.Mathlib.Omega.{arith}
 use lib.ListN.{length, get_or}
 use borrow.Author.Rules.{rules}
@@ -12,7 +13,6 @@ use Rattle.clerk.specs.inner.State.{placed_of}
 use Rattle.clerk.proofs.StateLaws.{unplaced, is_placed}
 use Rattle.clerk.proofs.placing.first_stuck.Statement.{statement}
 use Rattle.clerk.proofs.placing.first_stuck.Tie as tie
-use Rattle.clerk.proofs.placing.first_stuck.Lts.{then-s-o-lt4096+else-s-t-lt4096, else-s-o-lt4096}
 
 abbrev invariant-loop : tie.invariant-loop-k
 invariant-loop owners targets s k₀ k = (k ≤ length owners) × (first_stuck (edges owners targets) (placed_of s) ≡ first (stuck_at (edges owners targets) (placed_of s)) k (length (edges owners targets) - k))
@@ -54,16 +54,12 @@ mul-if2 c = omega (arith, aim c.before.before.before.before)
 element-copy-out-if2 : tie.Need-bounds-s-t invariant-loop decreases-loop
 element-copy-out-if2 c = omega (arith, aim c.before.before.before.before)
 
-returns : tie.Need-returns-then-s-t-lt4096 invariant-loop decreases-loop
-returns c = sym (c.loop-k.invariant.1 ∙ first_hit _ _ _ (in-edges c.before.before.before.before.before.before) (rw (edge_at c.before.before.before.before.before.before, unplaced _ _ c.requires.1 _ (own c.before.before.before.before.before.before) c.if-s-o-lt4096.true, unplaced _ _ c.requires.1 _ (aim c.before.before.before.before.before.before) c.if-s-t-lt4096.true)))
-
+-- The tests of the loop's body are found among the facts, and not named: their names have the number that they compare with, and a wrong number is
+-- to be refused for what it says.
 loop-again : tie.Need-loop-k-preserved invariant-loop decreases-loop
 loop-again c = (
   omega arith,
-  c.loop-k.invariant.1 ∙ first_miss _ _ _ (in-edges c.before.before.before.before) (rw (edge_at c.before.before.before.before) (elim c.if-s-o-lt4096.branch [
-    | then-s-o-lt4096+else-s-t-lt4096 w ↦ rw (is_placed _ _ c.requires.1 _ (aim c.before.before.before.before) w.if-s-t-lt4096.false, and-false)
-    | else-s-o-lt4096 w ↦ rw (is_placed _ _ c.requires.1 _ (own c.before.before.before.before) w.if-s-o-lt4096.false)
-  ])),
+  c.loop-k.invariant.1 ∙ first_miss _ _ _ (in-edges c.before.before.before.before) (rw (edge_at c.before.before.before.before) (⊎_elim (λ w. rw (is_placed _ _ c.requires.1 _ (aim c.before.before.before.before) (omega arith), and-false)) (λ w. rw (is_placed _ _ c.requires.1 _ (own c.before.before.before.before) (omega arith))) c.if-s-o-lt4096.branch-raw)),
 )
 
 returns-2 : tie.Need-returns invariant-loop decreases-loop
@@ -84,7 +80,9 @@ first_stuck_spec =
     element-copy-out-if1
     mul-if2
     element-copy-out-if2
-    returns
+    (λ c.
+    let b = c.before.before.before.before.before.before in
+    sym (c.loop-k.invariant.1 ∙ first_hit _ _ _ (in-edges b) (rw (edge_at b, unplaced _ _ c.requires.1 _ (own b) (omega arith), unplaced _ _ c.requires.1 _ (aim b) (omega arith)))))
     (λ c. search rules)
     (λ c. search rules)
     loop-again
