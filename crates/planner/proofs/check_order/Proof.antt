@@ -14,47 +14,47 @@ use Rattle.planner.proofs.check_order.Statement.{statement}
 use Rattle.planner.proofs.check_order.Tie as tie
 
 -- the sheet passes its checks, and the tables have its edges
-ok : (c : tie.After-enum-told) → sheet_verdict c.before.before.before.before.before.before.before.before.before.before.args.sheet.now c.before.before.before.before.before.before.before.before.before.before.args.names.now ≡ Accepted
-ok c = sym (tables_verdict_lem _ _ _ _ (omega arith) (omega arith)) ∙ sym c.before.before.before.before.resolve.ensures.verdict ∙ c.enum_told.given.1
+ok : (c : tie.In_default) → sheet_verdict c.args.sheet.now c.args.names.now ≡ Accepted
+ok c = sym (tables_verdict_lem _ _ _ _ (omega arith) (omega arith)) ∙ sym c.resolve.ensures.verdict ∙ c.in_default.is
 
-accepts : (c : tie.After-enum-told) → Accepts c.before.before.before.before.before.before.before.before.before.before.args.sheet.now c.before.before.before.before.before.before.before.before.before.before.args.names.now
+accepts : (c : tie.In_default) → Accepts c.args.sheet.now c.args.names.now
 accepts c = accepts_of _ _ (ok c)
 
-owners-part : (c : tie.After-enum-told) → take (listed c.before.before.before.before.before.before.before.before.before.before.args.sheet.now) c.before.before.before.before.resolve.new.1.1.0 ≡ owners_of c.before.before.before.before.before.before.before.before.before.before.args.sheet.now (listed c.before.before.before.before.before.before.before.before.before.before.args.sheet.now)
-owners-part c = owners_are _ _ _ _ (omega arith) (omega arith) (ok c) _ _ _ c.before.before.before.before.resolve.ensures
+owners-part : (c : tie.In_default) → take (listed c.args.sheet.now) c.resolve.new.1.1.0 ≡ owners_of c.args.sheet.now (listed c.args.sheet.now)
+owners-part c = owners_are _ _ _ _ (omega arith) (omega arith) (ok c) _ _ _ c.resolve.ensures
 
-targets-part : (c : tie.After-enum-told) → take (listed c.before.before.before.before.before.before.before.before.before.before.args.sheet.now) c.before.before.before.before.resolve.new.1.1.1.0 ≡ targets_of c.before.before.before.before.before.before.before.before.before.before.args.sheet.now c.before.before.before.before.before.before.before.before.before.before.args.names.now (listed c.before.before.before.before.before.before.before.before.before.before.args.sheet.now)
-targets-part c = targets_are _ _ _ _ (omega arith) (omega arith) (ok c) _ _ _ c.before.before.before.before.resolve.ensures
+targets-part : (c : tie.In_default) → take (listed c.args.sheet.now) c.resolve.new.1.1.1.0 ≡ targets_of c.args.sheet.now c.args.names.now (listed c.args.sheet.now)
+targets-part c = targets_are _ _ _ _ (omega arith) (omega arith) (ok c) _ _ _ c.resolve.ensures
 
-returns : tie.Need-returns
-returns c = refuse_sheet _ _ _ _ (sym (tables_verdict_lem _ _ _ _ (omega arith) (omega arith)) ∙ sym c.before.before.before.before.before.resolve.ensures.verdict ∙ c.before.refusal.given.1)
+returns : tie.Need-returns-in-Refused
+returns c = refuse_sheet _ _ _ _ (sym (tables_verdict_lem _ _ _ _ (omega arith) (omega arith)) ∙ sym c.resolve.ensures.verdict ∙ c.in-Refused.is)
 
-shared-slice-read-n : tie.Need-shared-slice-read-n
+shared-slice-read-n : tie.Need-bounds-sheet-0
 shared-slice-read-n c = omega (arith, (accepts c.before).shape.size)
 
-cast-n : tie.Need-overflow-cast-n
+cast-n : tie.Need-overflow_cast-n
 cast-n c = omega (arith, (accepts c.before).shape.few)
 
-shared-slice-read-listed : tie.Need-shared-slice-read-listed
+shared-slice-read-listed : tie.Need-bounds-sheet-1
 shared-slice-read-listed c = omega (arith, (accepts c.before.before).shape.size)
 
-cast-listed : tie.Need-overflow-cast-listed
+cast-listed : tie.Need-overflow_cast-listed
 cast-listed c = omega (arith, (accepts c.before.before).shape.few_edges)
 
 part-check-list-end : tie.Need-slice-bounds-check-list-end
-part-check-list-end c = omega (arith, (accepts c.before.before.before).shape.few_edges, c.before.before.before.before.before.before.before.resolve.auto.1.1.0)
+part-check-list-end c = omega (arith, (accepts c.before.before.before).shape.few_edges, c.resolve.auto.1.1.0)
 
 part-check-list-end-2 : tie.Need-slice-bounds-check-list-end-2
-part-check-list-end-2 c = omega (arith, (accepts c.before.before.before.before.before).shape.few_edges, c.before.before.before.before.before.before.before.before.before.resolve.auto.1.1.1.0)
+part-check-list-end-2 c = omega (arith, (accepts c.before.before.before.before.before).shape.few_edges, c.resolve.auto.1.1.1.0)
 
-check-list-requires : tie.Need-check-list-requires
+check-list-requires : tie.Need-check_list-requires
 check-list-requires c κs = (rw (sub-zero) (rows_of _ _ _ _ (accepts c.before.before.before.before.before.before) (owners-part c.before.before.before.before.before.before) (targets-part c.before.before.before.before.before.before)), (accepts c.before.before.before.before.before.before).shape.few)
 
-returns-2 : tie.Need-returns-2
-returns-2 c = judge_list _ _ _ (ok c.before.before.before.before.before.before.before) _ _ (owners-part c.before.before.before.before.before.before.before) (targets-part c.before.before.before.before.before.before.before) _ (rw (sub-zero) at c.check-list.ensures)
+returns-2 : tie.Need-returns
+returns-2 c = judge_list _ _ _ (ok c.before.before.before.before.before) _ _ (owners-part c.before.before.before.before.before) (targets-part c.before.before.before.before.before) _ (rw (sub-zero) at c.check_list.ensures)
 
-pub check-order-spec : {M : Type 1} → statement M
-check-order-spec =
+pub check_order_spec : {M : Type 1} → statement M
+check_order_spec =
     tie.close
     (tie.spec
     (λ c. search rules)

@@ -5,7 +5,7 @@ use Rattle.planner.proofs.propose.Tie as tie
 
 returns : tie.Need-returns
 unfolding proposed
-returns c = c.before.before.toposort.ensures
+returns c = c.toposort.ensures
 
-pub propose-spec : {M : Type 1} → statement M
-propose-spec = tie.close (tie.spec (λ c κs. search rules) (λ c. search rules) returns)
+pub propose_spec : {M : Type 1} → statement M
+propose_spec = tie.close (tie.spec (λ c κs. search rules) (λ c. search rules) returns)

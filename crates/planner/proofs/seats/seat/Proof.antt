@@ -6,50 +6,50 @@ use Rattle.planner.proofs.SeatLaws.{Seating, seating_start, unfit_seat, unfit_it
 use Rattle.planner.proofs.seats.seat.Statement.{statement}
 use Rattle.planner.proofs.seats.seat.Tie as tie
 
-abbrev invariant-loop : tie.invariant-loop
+abbrev invariant-loop : tie.invariant-loop-s
 invariant-loop list n s₀ s = Seating n list s.index s.end
 
-abbrev decreases-loop : tie.decreases-loop
+abbrev decreases-loop : tie.decreases-loop-s
 decreases-loop list n s₀ s = length list - s.end
 
-loop-holds : tie.Need-loop-init invariant-loop decreases-loop
-loop-holds c = seating_start _ _ _ c.empty.ensures
+loop-holds : tie.Need-loop-s-init invariant-loop decreases-loop
+loop-holds c = seating_start _ _ _ c.empty-s.ensures
 
-cast-x : tie.Need-overflow-cast-x invariant-loop decreases-loop
-cast-x c = omega (arith, c.shared-slice-known2.given c.before.before.loop.s.end)
+cast-x : tie.Need-overflow_cast-x invariant-loop decreases-loop
+cast-x c = omega (arith, c.shared_slice_known-in-loop-s-1.given c.loop-s.s.end)
 
-returns : tie.Need-returns invariant-loop decreases-loop
-returns c = seating_stop _ _ _ c.before.before.before.loop.invariant (λ l. unfit_item _ _ _ _ c.before.before.before.before.before.before.requires c.before.before.before.loop.invariant c.if1.true)
+returns : tie.Need-returns-then-n-x invariant-loop decreases-loop
+returns c = seating_stop _ _ _ c.loop-s.invariant (λ l. unfit_item _ _ _ _ c.requires c.loop-s.invariant c.if-n-x.true)
 
-mul-if2 : tie.Need-overflow-mul-if2 invariant-loop decreases-loop
-mul-if2 c = omega (arith, c.before.before.before.loop.invariant.seated.size)
+mul-if2 : tie.Need-offset_bounds-s-x invariant-loop decreases-loop
+mul-if2 c = omega (arith, c.loop-s.invariant.seated.size)
 
-element-copy-out-if2 : tie.Need-element-copy-out-if2 invariant-loop decreases-loop
-element-copy-out-if2 c = omega (arith, c.before.before.before.loop.invariant.seated.size)
+element-copy-out-if2 : tie.Need-bounds-s-x invariant-loop decreases-loop
+element-copy-out-if2 c = omega (arith, c.loop-s.invariant.seated.size)
 
-returns-2 : tie.Need-returns-2 invariant-loop decreases-loop
-returns-2 c = seating_stop _ _ _ c.before.before.before.before.before.loop.invariant (λ l. unfit_seat _ _ _ _ c.before.before.before.before.before.before.before.before.requires c.before.before.before.before.before.loop.invariant (omega (arith, c.before.before.if1.false)) c.if2.true)
+returns-2 : tie.Need-returns-then-s-x-lt256 invariant-loop decreases-loop
+returns-2 c = seating_stop _ _ _ c.loop-s.invariant (λ l. unfit_seat _ _ _ _ c.requires c.loop-s.invariant (omega (arith, c.if-n-x.false)) c.if-s-x-lt256.true)
 
-cast-s : tie.Need-overflow-cast-s invariant-loop decreases-loop
-cast-s c = omega (arith, seat_room _ _ _ _ c.before.before.before.before.before.before.before.before.requires c.before.before.before.before.before.loop.invariant c.before.before.before.before.loop-test.true (omega (arith, c.before.before.if1.false)) c.if2.false)
+cast-s : tie.Need-overflow_cast-s invariant-loop decreases-loop
+cast-s c = omega (arith, seat_room _ _ _ _ c.requires c.loop-s.invariant c.loop-s-test.true (omega (arith, c.if-n-x.false)) c.if-s-x-lt256.false)
 
-mul-s : tie.Need-overflow-mul-s invariant-loop decreases-loop
-mul-s c = omega (arith, c.before.before.before.before.before.loop.invariant.seated.size)
+mul-s : tie.Need-offset_bounds-s-x-in-loop-s invariant-loop decreases-loop
+mul-s c = omega (arith, c.loop-s.invariant.seated.size)
 
-element-write-s : tie.Need-element-write-s invariant-loop decreases-loop
-element-write-s c = omega (arith, c.before.before.before.before.before.loop.invariant.seated.size)
+element-write-s : tie.Need-bounds-s-x-in-loop-s invariant-loop decreases-loop
+element-write-s c = omega (arith, c.loop-s.invariant.seated.size)
 
-add-s : tie.Need-overflow-add-s invariant-loop decreases-loop
-add-s c = omega (arith, seat_room _ _ _ _ c.before.before.before.before.before.before.before.before.requires c.before.before.before.before.before.loop.invariant c.before.before.before.before.loop-test.true (omega (arith, c.before.before.if1.false)) c.if2.false)
+add-s : tie.Need-overflow_add-s invariant-loop decreases-loop
+add-s c = omega (arith, seat_room _ _ _ _ c.requires c.loop-s.invariant c.loop-s-test.true (omega (arith, c.if-n-x.false)) c.if-s-x-lt256.false)
 
-loop-again : tie.Need-loop-preserved invariant-loop decreases-loop
-loop-again c = seating_more _ _ _ _ c.before.before.before.before.before.before.before.before.requires c.before.before.before.before.before.loop.invariant c.before.before.before.before.loop-test.true (omega (arith, c.before.before.if1.false)) c.if2.false
+loop-again : tie.Need-loop-s-preserved invariant-loop decreases-loop
+loop-again c = seating_more _ _ _ _ c.requires c.loop-s.invariant c.loop-s-test.true (omega (arith, c.if-n-x.false)) c.if-s-x-lt256.false
 
-returns-3 : tie.Need-returns-3 invariant-loop decreases-loop
-returns-3 c = seating_stop _ _ _ c.before.loop.invariant (λ l. absurd (omega arith))
+returns-3 : tie.Need-returns invariant-loop decreases-loop
+returns-3 c = seating_stop _ _ _ c.loop-s.invariant (λ l. absurd (omega arith))
 
-pub seat-spec : {M : Type 1} → statement M
-seat-spec =
+pub seat_spec : {M : Type 1} → statement M
+seat_spec =
     tie.close
     (tie.spec
     invariant-loop
