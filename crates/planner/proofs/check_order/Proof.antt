@@ -20,10 +20,10 @@ ok c = sym (tables_verdict_lem _ _ _ _ (omega arith) (omega arith)) ∙ sym c.re
 accepts : (c : tie.In_default) → Accepts c.args.sheet.now c.args.names.now
 accepts c = accepts_of _ _ (ok c)
 
-owners-part : (c : tie.In_default) → take (listed c.args.sheet.now) c.resolve.new.1.1.0 ≡ owners_of c.args.sheet.now (listed c.args.sheet.now)
+owners-part : (c : tie.In_default) → take (listed c.args.sheet.now) c.resolve.new.owners ≡ owners_of c.args.sheet.now (listed c.args.sheet.now)
 owners-part c = owners_are _ _ _ _ (omega arith) (omega arith) (ok c) _ _ _ c.resolve.ensures
 
-targets-part : (c : tie.In_default) → take (listed c.args.sheet.now) c.resolve.new.1.1.1.0 ≡ targets_of c.args.sheet.now c.args.names.now (listed c.args.sheet.now)
+targets-part : (c : tie.In_default) → take (listed c.args.sheet.now) c.resolve.new.targets ≡ targets_of c.args.sheet.now c.args.names.now (listed c.args.sheet.now)
 targets-part c = targets_are _ _ _ _ (omega arith) (omega arith) (ok c) _ _ _ c.resolve.ensures
 
 returns : tie.Need-returns-in-Refused
@@ -41,14 +41,14 @@ shared-slice-read-listed c = omega (arith, (accepts c.before.before).shape.size)
 cast-listed : tie.Need-overflow_cast-listed
 cast-listed c = omega (arith, (accepts c.before.before).shape.few_edges)
 
-part-check-list-end : tie.Need-slice-bounds-check-list-end
-part-check-list-end c = omega (arith, (accepts c.before.before.before).shape.few_edges, c.resolve.auto.1.1.0)
+part-check-list-end : tie.Need-slice_bounds-check_list-end
+part-check-list-end c = omega (arith, (accepts c.before.before).shape.few_edges, c.resolve.auto.owners)
 
-part-check-list-end-2 : tie.Need-slice-bounds-check-list-end-2
-part-check-list-end-2 c = omega (arith, (accepts c.before.before.before.before.before).shape.few_edges, c.resolve.auto.1.1.1.0)
+part-check-list-end-2 : tie.Need-slice_bounds-check_list-end-2
+part-check-list-end-2 c = omega (arith, (accepts c.before.before.before).shape.few_edges, c.resolve.auto.targets)
 
 check-list-requires : tie.Need-check_list-requires
-check-list-requires c κs = (rw (sub-zero) (rows_of _ _ _ _ (accepts c.before.before.before.before.before.before) (owners-part c.before.before.before.before.before.before) (targets-part c.before.before.before.before.before.before)), (accepts c.before.before.before.before.before.before).shape.few)
+check-list-requires c κs = (rw (sub-zero) (rows_of _ _ _ _ (accepts c.before.before.before.before) (owners-part c.before.before.before.before) (targets-part c.before.before.before.before)), (accepts c.before.before.before.before).shape.few)
 
 returns-2 : tie.Need-returns
 returns-2 c = judge_list _ _ _ (ok c.before.before.before.before.before) _ _ (owners-part c.before.before.before.before.before) (targets-part c.before.before.before.before.before) _ (rw (sub-zero) at c.check_list.ensures)

@@ -27,11 +27,10 @@ mul-if2 c = omega (arith, c.loop-s.invariant.seated.size)
 element-copy-out-if2 : tie.Need-bounds-s-x invariant-loop decreases-loop
 element-copy-out-if2 c = omega (arith, c.loop-s.invariant.seated.size)
 
-returns-2 : tie.Need-returns-then-s-x-lt256 invariant-loop decreases-loop
-returns-2 c = seating_stop _ _ _ c.loop-s.invariant (λ l. unfit_seat _ _ _ _ c.requires c.loop-s.invariant (omega (arith, c.if-n-x.false)) c.if-s-x-lt256.true)
-
+-- Whether the word has a seat is found among the facts, and not named: the test's name has the number that it compares with, and a wrong number is
+-- to be refused for what it says.
 cast-s : tie.Need-overflow_cast-s invariant-loop decreases-loop
-cast-s c = omega (arith, seat_room _ _ _ _ c.requires c.loop-s.invariant c.loop-s-test.true (omega (arith, c.if-n-x.false)) c.if-s-x-lt256.false)
+cast-s c = omega (arith, seat_room _ _ _ _ c.requires c.loop-s.invariant c.loop-s-test.true (omega (arith, c.if-n-x.false)) (omega arith))
 
 mul-s : tie.Need-offset_bounds-s-x-in-loop-s invariant-loop decreases-loop
 mul-s c = omega (arith, c.loop-s.invariant.seated.size)
@@ -40,10 +39,10 @@ element-write-s : tie.Need-bounds-s-x-in-loop-s invariant-loop decreases-loop
 element-write-s c = omega (arith, c.loop-s.invariant.seated.size)
 
 add-s : tie.Need-overflow_add-s invariant-loop decreases-loop
-add-s c = omega (arith, seat_room _ _ _ _ c.requires c.loop-s.invariant c.loop-s-test.true (omega (arith, c.if-n-x.false)) c.if-s-x-lt256.false)
+add-s c = omega (arith, seat_room _ _ _ _ c.requires c.loop-s.invariant c.loop-s-test.true (omega (arith, c.if-n-x.false)) (omega arith))
 
 loop-again : tie.Need-loop-s-preserved invariant-loop decreases-loop
-loop-again c = seating_more _ _ _ _ c.requires c.loop-s.invariant c.loop-s-test.true (omega (arith, c.if-n-x.false)) c.if-s-x-lt256.false
+loop-again c = seating_more _ _ _ _ c.requires c.loop-s.invariant c.loop-s-test.true (omega (arith, c.if-n-x.false)) (omega arith)
 
 returns-3 : tie.Need-returns invariant-loop decreases-loop
 returns-3 c = seating_stop _ _ _ c.loop-s.invariant (λ l. absurd (omega arith))
@@ -62,7 +61,7 @@ seat_spec =
     returns
     mul-if2
     element-copy-out-if2
-    returns-2
+    (λ c. seating_stop _ _ _ c.loop-s.invariant (λ l. unfit_seat _ _ _ _ c.requires c.loop-s.invariant (omega (arith, c.if-n-x.false)) (omega arith)))
     cast-s
     mul-s
     element-write-s
