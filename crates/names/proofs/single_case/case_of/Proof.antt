@@ -4,6 +4,6 @@ use Rattle.names.specs.inner.OneCase.{case_of}
 use Rattle.names.proofs.single_case.case_of.Statement.{statement}
 use Rattle.names.proofs.single_case.case_of.Tie as tie
 
-pub case-of-spec : {M : Type 1} → statement M
+pub case_of_spec : {M : Type 1} → statement M
 unfolding case_of
-case-of-spec = tie.close (tie.spec (λ c. rw (lt-ltb _ _ c.if1.true)) (λ c. rw (le-ltb _ _ c.if1.false)))
+case_of_spec = tie.close (tie.spec (λ c. rw (lt-ltb _ _ c.if-b-lt97.true)) (λ c. rw (le-ltb _ _ c.if-b-lt97.false)))

@@ -6,24 +6,24 @@ use Rattle.names.proofs.OneCaseLaws.{follow_one, follow_two, follow_on}
 use Rattle.names.proofs.single_case.joined_singly.Statement.{statement}
 use Rattle.names.proofs.single_case.joined_singly.Tie as tie
 
-abbrev invariant-loop : tie.invariant-loop
+abbrev invariant-loop : tie.invariant-loop-k
 invariant-loop text from end low k₀ k = (from ≤ k) × (k < end) × Follow text low from (k + 1)
 
-abbrev decreases-loop : tie.decreases-loop
+abbrev decreases-loop : tie.decreases-loop-k
 decreases-loop text from end low k₀ k = end - k
 
-loop-holds : tie.Need-loop-init invariant-loop decreases-loop
-loop-holds c = let a = c.before.args in (omega arith, omega arith, follow_one a.text.now a.low a.from)
+loop-holds : tie.Need-loop-k-init invariant-loop decreases-loop
+loop-holds c = let a = c.args in (omega arith, omega arith, follow_one a.text.now a.low a.from)
 
-loop-again : tie.Need-loop-preserved invariant-loop decreases-loop
+loop-again : tie.Need-loop-k-preserved invariant-loop decreases-loop
 loop-again c =
-    let turn : tie.At-loop invariant-loop decreases-loop = c.before.before.before.before.before in
-    let a = turn.before.before.args in
-    let two = follow_two a.text.now a.low turn.loop.k (sym c.before.odd.ensures ∙ c.if1.false) in
-    (omega arith, omega arith, follow_on a.text.now a.low a.from turn.loop.k 2 _ (omega arith) turn.loop.invariant.2 two)
+    let turn : tie.At-loop-k invariant-loop decreases-loop = c.before.before.before.before.before in
+    let a = turn.args in
+    let two = follow_two a.text.now a.low turn.loop-k.k (sym c.odd.ensures ∙ c.if-odd-ne0.false) in
+    (omega arith, omega arith, follow_on a.text.now a.low a.from turn.loop-k.k 2 _ (omega arith) turn.loop-k.invariant.2 two)
 
-pub joined-singly-spec : {M : Type 1} → statement M
-joined-singly-spec =
+pub joined_singly_spec : {M : Type 1} → statement M
+joined_singly_spec =
     tie.close
     (tie.spec
     invariant-loop
@@ -38,4 +38,4 @@ joined-singly-spec =
     (λ c. search rules)
     (λ c. search rules)
     loop-again
-    (λ c z k a h. c.before.loop.invariant.2 k a (omega arith)))
+    (λ c z k a h. c.loop-k.invariant.2 k a (omega arith)))

@@ -4,7 +4,7 @@ use Rattle.names.proofs.OneCaseLaws.{wrapped}
 use Rattle.names.proofs.single_case.of_case.Statement.{statement}
 use Rattle.names.proofs.single_case.of_case.Tie as tie
 
-pub of-case-spec : {M : Type 1} → statement M
-of-case-spec =
+pub of_case_spec : {M : Type 1} → statement M
+of_case_spec =
     tie.close
-    (tie.spec (λ c κs. search rules) (λ c. wrapped _ _ _ (omega arith) (omega arith) c.wrapping-sub-u8.ensures))
+    (tie.spec (λ c κs. search rules) (λ c. wrapped _ _ _ (omega arith) (omega arith) c.wrapping_sub_u8.ensures))

@@ -1,29 +1,28 @@
 -- Behind the tests the first byte is a letter of its case, the last is no `-`, and each byte may follow the one before (`one-case-accepted`).
 use Rattle.std.proofs.Common.{◌≤◌, arith, rules}
 use mathlib.Core.Bool.{false≢true}
-use borrow.Author.Tests.{not-false}
 use Rattle.names.proofs.OneCaseLaws.{case_small, one_case_accepted}
 use Rattle.names.proofs.single_case.one_case.Statement.{statement}
 use Rattle.names.proofs.single_case.one_case.Tie as tie
 
 -- where the case of the first byte is known
-abbrev top : tie.After-case-of → tie.Start
+abbrev top : tie.After-case_of-low → tie.Start
 top c = c.before.before.before.before.before.before.before.before
 
-small : (c : tie.After-case-of) → c.case-of.result ≤ 0x61
-small c = rw c.case-of.ensures (case_small _)
+small : (c : tie.After-case_of-low) → c.case_of-low.result ≤ 0x61
+small c = rw c.case_of-low.ensures (case_small _)
 
-returns-4 : tie.Need-returns-4
+returns-4 : tie.Need-returns
 returns-4 c z q =
-    let cased : tie.After-case-of = c.before.before.before in
+    let cased : tie.After-case_of-low = c.before.before.before in
     let a = (top cased).args in
     one_case_accepted q a.text.now a.from.0 a.end.0 (omega arith) (omega arith) (omega arith)
-    cased.before.before.if2.false
-    (rw (← cased.case-of.ensures, ← c.before.before.of-case.ensures) (not-false _ c.before.if3.false))
-    (rw (← cased.case-of.ensures) (c.joined.ensures z))
+    cased.if-text-to-eq45.false
+    (rw (← cased.case_of-low.ensures, ← c.of_case.ensures) c.if-not-of_case.false)
+    (rw (← cased.case_of-low.ensures) (c.joined.ensures z))
 
-pub one-case-spec : {M : Type 1} → statement M
-one-case-spec =
+pub one_case_spec : {M : Type 1} → statement M
+one_case_spec =
     tie.close
     (tie.spec
     (λ c. search rules)

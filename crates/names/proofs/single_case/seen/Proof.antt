@@ -16,13 +16,13 @@ abbrev bad : tie.After-least → Bool
 bad c = not (follows (top c).args.low (top c).args.p (top c).args.b)
 
 least-is : (c : tie.After-least) → c.least.result ≡ min (bit (inside c)) (bit (bad c))
-least-is c = c.least.ensures ∙ simp (c.before.before.early.ensures, c.before.odd.ensures)
+least-is c = c.least.ensures ∙ simp (c.early.ensures, c.odd.ensures)
 
-returns : tie.Need-returns
-returns c = least_none (inside c.before) (bad c.before) _ (sym (least-is c.before) ∙ c.if1.true)
+returns : tie.Need-returns-then-least-eq0
+returns c = least_none (inside c.before) (bad c.before) _ (sym (least-is c.before) ∙ c.if-least-eq0.true)
 
-returns-2 : tie.Need-returns-2
-returns-2 c = least_some (inside c.before) (bad c.before) _ (λ z. c.if1.false (least-is c.before ∙ z))
+returns-2 : tie.Need-returns-else-least-eq0
+returns-2 c = least_some (inside c.before) (bad c.before) _ (λ z. c.if-least-eq0.false (least-is c.before ∙ z))
 
-pub seen-spec : {M : Type 1} → statement M
-seen-spec = tie.close (tie.spec (λ c κs. search rules) (λ c κs. search rules) (λ c κs. search rules) returns returns-2)
+pub seen_spec : {M : Type 1} → statement M
+seen_spec = tie.close (tie.spec (λ c κs. search rules) (λ c κs. search rules) (λ c κs. search rules) returns returns-2)

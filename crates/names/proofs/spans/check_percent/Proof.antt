@@ -4,13 +4,13 @@ use Rattle.names.specs.Names.{percent_verdict}
 use Rattle.names.proofs.spans.check_percent.Statement.{statement}
 use Rattle.names.proofs.spans.check_percent.Tie as tie
 
-pub check-percent-spec : {M : Type 1} → statement M
+pub check_percent_spec : {M : Type 1} → statement M
 unfolding percent_verdict
-check-percent-spec =
+check_percent_spec =
     tie.close
     (tie.spec
-    (λ c. rw (le-ltb _ _ c.if1.true))
+    (λ c. rw (le-ltb _ _ c.if-end-start.true))
     (λ c. search rules)
     (λ c κs. search rules)
-    (λ c. rw (lt-ltb _ _ c.before.before.before.if1.false, ← c.before.byte_at.ensures, eq-eqb _ _ c.if2.true))
-    (λ c. rw (lt-ltb _ _ c.before.before.before.if1.false, ← c.before.byte_at.ensures, ne_eqb _ _ c.if2.false)))
+    (λ c. rw (lt-ltb _ _ c.if-end-start.false, ← c.byte_at.ensures, eq-eqb _ _ c.if-byte_at-eq37.true))
+    (λ c. rw (lt-ltb _ _ c.if-end-start.false, ← c.byte_at.ensures, ne_eqb _ _ c.if-byte_at-eq37.false)))

@@ -4,33 +4,33 @@ use Rattle.names.specs.Names.{handed}
 use Rattle.names.proofs.spans.hand.Statement.{statement}
 use Rattle.names.proofs.spans.hand.Tie as tie
 
-abbrev first : tie.After-named → ℕ
-first c = c.named.given.0.0.0
+abbrev first : tie.In-Id → ℕ
+first c = c.in-Id.first.0
 
-abbrev last : tie.After-named → ℕ
-last c = c.named.given.0.1.0.0
+abbrev last : tie.In-Id → ℕ
+last c = c.in-Id.last.0
 
-lies : (c : tie.After-named) → (first c ≤ last c) × (last c ≤ length c.before.before.before.args.text.now)
-lies c = rw c.named.given.1 at c.before.before.before.requires
+lies : (c : tie.In-Id) → (first c ≤ last c) × (last c ≤ length c.args.text.now)
+lies c = rw c.in-Id.is at c.requires
 
-returns : tie.Need-returns
+returns : tie.Need-returns-in-Id
 unfolding handed
-returns c = let id : tie.After-named = c.before.before.before.before.before in rw id.named.given.1
+returns c = let id : tie.In-Id = c.before.before.before.before in rw id.in-Id.is
 
-returns-2 : tie.Need-returns-2
+returns-2 : tie.Need-returns-in-Refused
 unfolding handed
-returns-2 c = let told = c.before.before in rw (told.before.before.named2.given.1, ← told.numbers2.ensures)
+returns-2 c = let told = c.before.before in rw (told.in-Refused.is, ← told.numbers-told.ensures)
 
-pub hand-spec : {M : Type 1} → statement M
-hand-spec =
+pub hand_spec : {M : Type 1} → statement M
+hand_spec =
     tie.close
     (tie.spec
     (λ c. search rules)
     (λ c. search rules)
     (λ c. search rules)
-    (λ c. omega (arith, lies c.before.before.before.before))
-    (λ c. omega (arith, lies c.before.before.before.before))
-    (λ c. omega (arith, lies c.before.before.before.before))
+    (λ c. omega (arith, lies c.before.before.before))
+    (λ c. omega (arith, lies c.before.before.before))
+    (λ c. omega (arith, lies c.before.before.before))
     (λ c. search rules)
     (λ c κs. search rules)
     (λ c. search rules)

@@ -4,8 +4,8 @@ use Rattle.names.specs.Names.{cut}
 use Rattle.names.proofs.spans.is_cut.Statement.{statement}
 use Rattle.names.proofs.spans.is_cut.Tie as tie
 
-pub is-cut-spec : {M : Type 1} → statement M
+pub is_cut_spec : {M : Type 1} → statement M
 unfolding cut
-is-cut-spec =
+is_cut_spec =
     tie.close
-    (tie.spec (λ c κs. search rules) (λ c κs. search rules) (λ c. rw (← c.before.byte_at.ensures) c.within.ensures))
+    (tie.spec (λ c κs. search rules) (λ c κs. search rules) (λ c. rw (← c.byte_at.ensures) c.within.ensures))

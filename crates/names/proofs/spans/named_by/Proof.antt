@@ -4,12 +4,12 @@ use Rattle.names.specs.Names.{named_by}
 use Rattle.names.proofs.spans.named_by.Statement.{statement}
 use Rattle.names.proofs.spans.named_by.Tie as tie
 
-pub named-by-spec : {M : Type 1} → statement M
+pub named_by_spec : {M : Type 1} → statement M
 unfolding named_by
-named-by-spec =
+named_by_spec =
     tie.close
     (tie.spec
     (λ c. search rules)
     (λ c. search rules)
-    (λ c. rw c.enum_told.given.1)
-    (λ c. rw c.before.verdict.given.1))
+    (λ c. rw c.in-Accepted.is)
+    (λ c. rw c.in-Refused.is))

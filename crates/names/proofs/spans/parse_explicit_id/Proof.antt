@@ -4,10 +4,10 @@ use Rattle.names.proofs.NameLaws.{explicit_within}
 use Rattle.names.proofs.spans.parse_explicit_id.Statement.{statement}
 use Rattle.names.proofs.spans.parse_explicit_id.Tie as tie
 
-pub parse-explicit-id-spec : {M : Type 1} → statement M
-parse-explicit-id-spec =
+pub parse_explicit_id_spec : {M : Type 1} → statement M
+parse_explicit_id_spec =
     tie.close
     (tie.spec
     (λ c κs. search rules)
-    (λ c κs. rw c.before.validate-explicit-id.ensures (explicit_within _ _ _))
-    (λ c. rw (← c.before.before.validate-explicit-id.ensures) c.hand.ensures))
+    (λ c κs. rw c.validate_explicit_id-named.ensures (explicit_within _ _ _))
+    (λ c. rw (← c.validate_explicit_id-named.ensures) c.hand.ensures))
