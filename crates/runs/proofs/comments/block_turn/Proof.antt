@@ -8,32 +8,32 @@ use Rattle.runs.specs.inner.Runs.{depth_of}
 use Rattle.runs.proofs.comments.block_turn.Statement.{statement}
 use Rattle.runs.proofs.comments.block_turn.Tie as tie
 
-deeper : tie.Need-overflow-add-t8
+deeper : tie.Need-overflow_add-result
 unfolding depth_of
-deeper c = let slash = c.before.before in omega (arith, slash.before.before.requires.few, ap depth_of slash.block2.given.1)
+deeper c = omega (arith, c.requires.few, ap depth_of c.in-Slash.is)
 
-less-deep : tie.Need-overflow-sub-t11
+less-deep : tie.Need-overflow_sub-result
 unfolding depth_of
-less-deep c = let star = c.before.before.before in omega (arith, star.before.before.requires.some, ap depth_of star.block3.given.1)
+less-deep c = omega (arith, c.requires.some, ap depth_of c.in-Star.is)
 
-pub block-turn-spec : {M : Type 1} → statement M
+pub block_turn_spec : {M : Type 1} → statement M
 unfolding block_turn
-block-turn-spec =
+block_turn_spec =
     tie.close
     (tie.spec
     (λ c. search rules)
     (λ c κs. search rules)
     (λ c. search rules)
     deeper
-    (λ c. rw (c.before.before.block2.given.1, eq-eqb _ _ c.if1.true))
+    (λ c. rw (c.in-Slash.is, eq-eqb _ _ c.if-c-eq42.true))
     (λ c κs. search rules)
     (λ c. search rules)
-    (λ c. rw (c.before.before.before.block3.given.1, eq-eqb _ _ c.before.if2.true, eq-eqb _ _ c.if3.true))
+    (λ c. rw (c.in-Star.is, eq-eqb _ _ c.if-c-eq47.true, eq-eqb _ _ c.if-depth-eq1.true))
     less-deep
-    (λ c. rw (c.before.before.before.block3.given.1, eq-eqb _ _ c.before.if2.true, ne_eqb _ _ c.if3.false))
+    (λ c. rw (c.in-Star.is, eq-eqb _ _ c.if-c-eq47.true, ne_eqb _ _ c.if-depth-eq1.false))
     (λ c κs. search rules)
     (λ c. search rules)
-    (λ c. rw c.before.before.block.given.1 c.seen_by.ensures)
-    (λ c. rw (c.before.before.before.block2.given.1, ne_eqb _ _ c.before.if1.false) c.seen-by2.ensures)
-    (λ c. rw (c.before.before.before.block3.given.1, ne_eqb _ _ c.before.if2.false) c.seen-by3.ensures)
-    (λ c. rw c.enum_told.given.1))
+    (λ c. rw c.in-Other.is c.seen_by.ensures)
+    (λ c. rw (c.in-Slash.is, ne_eqb _ _ c.if-c-eq42.false) c.seen_by-in-Slash.ensures)
+    (λ c. rw (c.in-Star.is, ne_eqb _ _ c.if-c-eq47.false) c.seen_by-in-Star.ensures)
+    (λ c. rw c.in-Closed.is))

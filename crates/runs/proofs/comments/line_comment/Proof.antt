@@ -15,15 +15,15 @@ use Rattle.runs.proofs.CommentLaws.{line_end, line_ill, line_newline, line_other
 use Rattle.runs.proofs.comments.line_comment.Statement.{statement}
 use Rattle.runs.proofs.comments.line_comment.Tie as tie
 
-abbrev invariant-loop : tie.invariant-loop
+abbrev invariant-loop : tie.invariant-loop-ill
 invariant-loop text at₀ at = line_comment (folded_from text at₀) ≡ line_comment (folded_from text at)
 
-abbrev decreases-loop : tie.decreases-loop
+abbrev decreases-loop : tie.decreases-loop-ill
 decreases-loop text at₀ at = length text - at.0
 
 -- behind plain text
 abbrev Behind : Type 0
-Behind = tie.After-plain-end invariant-loop decreases-loop
+Behind = tie.After-plain_end-here invariant-loop decreases-loop
 
 abbrev top : Behind → tie.Start invariant-loop decreases-loop
 top c = c.before.before.before
@@ -32,56 +32,56 @@ abbrev text : Behind → List ℕ
 text c = (top c).args.text.now
 
 -- the whole comment is what is left of it
-behind : (c : Behind) → line_comment (folded_from (text c) (top c).args.from) ≡ line_comment (folded_from (text c) c.plain-end.result)
-behind c = c.before.loop.invariant ∙ line_passes _ _ ∙ simp c.plain-end.ensures
+behind : (c : Behind) → line_comment (folded_from (text c) (top c).args.from) ≡ line_comment (folded_from (text c) c.plain_end-here.result)
+behind c = c.loop-ill.invariant ∙ line_passes _ _ ∙ simp c.plain_end-here.ensures
 
-beyond : (c : Behind) → c.before.loop.at.0 ≤ c.plain-end.result.0
-beyond c = simp c.plain-end.ensures (plain_beyond (text c) 10 10 13 c.before.loop.at)
+beyond : (c : Behind) → c.loop-ill.at.0 ≤ c.plain_end-here.result.0
+beyond c = simp c.plain_end-here.ensures (plain_beyond (text c) 10 10 13 c.loop-ill.at)
 
 -- where the text has been read
 abbrev Seen : Type 0
-Seen = tie.After-folded-at invariant-loop decreases-loop
+Seen = tie.After-folded_at invariant-loop decreases-loop
 
-stands : (c : Seen) (x : Read) → c.folded-at.result ≡ x → folded_at (text c.before) c.before.plain-end.result ≡ x
-stands c x e = sym c.folded-at.ensures ∙ e
+stands : (c : Seen) (x : Read) → c.folded_at.result ≡ x → folded_at (text c.before) c.plain_end-here.result ≡ x
+stands c x e = sym c.folded_at.ensures ∙ e
 
 -- and a character stands there
 abbrev Char-there : Type 0
-Char-there = tie.After-c invariant-loop decreases-loop
+Char-there = tie.In-Char invariant-loop decreases-loop
 
 abbrev run : Char-there → Behind
-run c = c.before.before.before
+run c = c.before.before
 
-stands_char : (c : Char-there) → folded_at (text (run c)) (run c).plain-end.result ≡ Char c.c.given.0.0 c.c.given.0.1.0
-stands_char c = stands c.before.before _ c.c.given.1
+stands_char : (c : Char-there) → folded_at (text (run c)) (run c).plain_end-here.result ≡ Char c.in-Char.c c.in-Char.next
+stands_char c = stands c.before _ c.in-Char.is
 
-returns : tie.Need-returns invariant-loop decreases-loop
+returns : tie.Need-returns-in-End invariant-loop decreases-loop
 returns c =
-    let s : Seen = c.before.before in
-    sym (behind s.before ∙ line_end _ _ (stands s _ c.enum_told.given.1))
+    let s : Seen = c.before in
+    sym (behind s.before ∙ line_end _ _ (stands s _ c.in-End.is))
 
-returns-2 : tie.Need-returns-2 invariant-loop decreases-loop
+returns-2 : tie.Need-returns-in-Ill invariant-loop decreases-loop
 returns-2 c =
-    let s : Seen = c.before.before.before in
-    sym (behind s.before ∙ line_ill _ _ _ (stands s _ c.before.ill.given.1))
+    let s : Seen = c.before in
+    sym (behind s.before ∙ line_ill _ _ _ (stands s _ c.in-Ill.is))
 
-returns-3 : tie.Need-returns-3 invariant-loop decreases-loop
+returns-3 : tie.Need-returns-then-c-eq10 invariant-loop decreases-loop
 returns-3 c =
-    let t : Char-there = c.before.before in
-    sym (behind (run t) ∙ line_newline _ _ _ _ (stands_char t) c.if1.true)
+    let t : Char-there = c.before in
+    sym (behind (run t) ∙ line_newline _ _ _ _ (stands_char t) c.if-c-eq10.true)
 
-loop-less : tie.Need-loop-smaller invariant-loop decreases-loop
+loop-less : tie.Need-loop-ill-smaller invariant-loop decreases-loop
 loop-less c =
-    let t : Char-there = c.before.before in
+    let t : Char-there = c.before in
     omega (arith, folded_onward _ _ _ _ (stands_char t), beyond (run t))
 
-loop-again : tie.Need-loop-preserved invariant-loop decreases-loop
+loop-again : tie.Need-loop-ill-preserved invariant-loop decreases-loop
 loop-again c =
-    let t : Char-there = c.before.before in
-    behind (run t) ∙ line_other _ _ _ _ (stands_char t) c.if1.false
+    let t : Char-there = c.before in
+    behind (run t) ∙ line_other _ _ _ _ (stands_char t) c.if-c-eq10.false
 
-pub line-comment-spec : {M : Type 1} → statement M
-line-comment-spec =
+pub line_comment_spec : {M : Type 1} → statement M
+line_comment_spec =
     tie.close
     (tie.spec
     invariant-loop

@@ -4,9 +4,9 @@ use Rattle.runs.specs.inner.Runs.{passed_by}
 use Rattle.runs.proofs.comments.passed.Statement.{statement}
 use Rattle.runs.proofs.comments.passed.Tie as tie
 
-pub passed-spec : {M : Type 1} → statement M
+pub passed_spec : {M : Type 1} → statement M
 unfolding passed_by
-passed-spec =
+passed_spec =
     tie.close
     (tie.spec
     (λ c. search rules)
@@ -14,7 +14,7 @@ passed-spec =
     (λ c. search rules)
     (λ c. search rules)
     (λ c. search rules)
-    (λ c. rw c.before.enum_told.given.1 c.plain-end.ensures)
-    (λ c. rw c.enum-told2.given.1)
-    (λ c. rw c.enum-told3.given.1)
-    (λ c. rw c.enum-told4.given.1))
+    (λ c. rw c.in-Other.is c.plain_end.ensures)
+    (λ c. rw c.in-Slash.is)
+    (λ c. rw c.in-Star.is)
+    (λ c. rw c.in-Closed.is))

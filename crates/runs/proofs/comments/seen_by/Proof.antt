@@ -4,11 +4,11 @@ use Rattle.runs.specs.Comments.{seen}
 use Rattle.runs.proofs.comments.seen_by.Statement.{statement}
 use Rattle.runs.proofs.comments.seen_by.Tie as tie
 
-pub seen-by-spec : {M : Type 1} → statement M
+pub seen_by_spec : {M : Type 1} → statement M
 unfolding seen
-seen-by-spec =
+seen_by_spec =
     tie.close
     (tie.spec
-    (λ c. rw (eq-eqb _ _ c.if1.true))
-    (λ c. rw (ne_eqb _ _ c.before.if1.false, eq-eqb _ _ c.if2.true))
-    (λ c. rw (ne_eqb _ _ c.before.if1.false, ne_eqb _ _ c.if2.false)))
+    (λ c. rw (eq-eqb _ _ c.if-c-eq47.true))
+    (λ c. rw (ne_eqb _ _ c.if-c-eq47.false, eq-eqb _ _ c.if-c-eq42.true))
+    (λ c. rw (ne_eqb _ _ c.if-c-eq47.false, ne_eqb _ _ c.if-c-eq42.false)))

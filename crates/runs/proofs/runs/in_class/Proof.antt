@@ -5,9 +5,9 @@ use Rattle.runs.specs.inner.Runs.{class_of}
 use Rattle.runs.proofs.runs.in_class.Statement.{statement}
 use Rattle.runs.proofs.runs.in_class.Tie as tie
 
-pub in-class-spec : {M : Type 1} → statement M
+pub in_class_spec : {M : Type 1} → statement M
 unfolding class_of digit
-in-class-spec =
+in_class_spec =
     tie.close
     (tie.spec
     (λ c. search rules)
@@ -16,6 +16,6 @@ in-class-spec =
     (λ c κs. search rules)
     (λ c. search rules)
     (λ c κs. search rules)
-    (λ c. rw c.before.enum_told.given.1 c.is-blank.ensures)
-    (λ c. rw c.before.enum-told2.given.1 c.within.ensures)
-    (λ c. rw c.before.enum-told3.given.1 c.is-keylike-continue.ensures))
+    (λ c. rw c.in-Blanks.is c.is_blank.ensures)
+    (λ c. rw c.in-Digits.is c.within.ensures)
+    (λ c. rw c.in-Keylike.is c.is_keylike_continue.ensures))

@@ -4,12 +4,12 @@ use Rattle.runs.specs.Comments.{blank}
 use Rattle.runs.proofs.runs.is_blank.Statement.{statement}
 use Rattle.runs.proofs.runs.is_blank.Tie as tie
 
-pub is-blank-spec : {M : Type 1} → statement M
+pub is_blank_spec : {M : Type 1} → statement M
 unfolding blank
-is-blank-spec =
+is_blank_spec =
     tie.close
     (tie.spec
-    (λ c. rw (eq-eqb _ _ c.if1.true))
-    (λ c. rw (ne_eqb _ _ c.before.if1.false, eq-eqb _ _ c.if2.true))
-    (λ c. rw (ne_eqb _ _ c.before.before.if1.false, ne_eqb _ _ c.before.if2.false, eq-eqb _ _ c.if3.true))
-    (λ c. rw (ne_eqb _ _ c.before.before.if1.false, ne_eqb _ _ c.before.if2.false, ne_eqb _ _ c.if3.false)))
+    (λ c. rw (eq-eqb _ _ c.if-c-eq10.true))
+    (λ c. rw (ne_eqb _ _ c.if-c-eq10.false, eq-eqb _ _ c.if-c-eq9.true))
+    (λ c. rw (ne_eqb _ _ c.if-c-eq10.false, ne_eqb _ _ c.if-c-eq9.false, eq-eqb _ _ c.if-c-eq32.true))
+    (λ c. rw (ne_eqb _ _ c.if-c-eq10.false, ne_eqb _ _ c.if-c-eq9.false, ne_eqb _ _ c.if-c-eq32.false)))

@@ -5,19 +5,19 @@ use Rattle.runs.specs.inner.Runs.{passed_over}
 use Rattle.runs.proofs.runs.passed_over.Statement.{statement}
 use Rattle.runs.proofs.runs.passed_over.Tie as tie
 
-returns : tie.Need-returns
+returns : tie.Need-returns-then-byte_at-lt203
 unfolding passed_over
-returns c = rw (c.before.before.enum-told3.given.1, ← c.before.byte_at.ensures, lt-ltb _ _ c.if1.true)
+returns c = rw (c.in-Keylike.is, ← c.byte_at.ensures, lt-ltb _ _ c.if-byte_at-lt203.true)
 
-returns-4 : tie.Need-returns-4
+returns-4 : tie.Need-returns-else-byte_at-lt203
 unfolding passed_over
 returns-4 c =
     let read = c.before.before in
-    rw (read.before.enum-told3.given.1, ← read.byte_at.ensures, le-ltb _ _ c.before.if1.false) c.keylike-end.ensures
+    rw (read.in-Keylike.is, ← read.byte_at.ensures, le-ltb _ _ c.if-byte_at-lt203.false) c.keylike_end.ensures
 
-pub passed-over-spec : {M : Type 1} → statement M
+pub passed_over_spec : {M : Type 1} → statement M
 unfolding passed_over
-passed-over-spec =
+passed_over_spec =
     tie.close
     (tie.spec
     (λ c. search rules)
@@ -26,6 +26,6 @@ passed-over-spec =
     (λ c κs. search rules)
     returns
     (λ c κs. search rules)
-    (λ c. rw c.enum_told.given.1)
-    (λ c. rw c.enum-told2.given.1)
+    (λ c. rw c.in-Blanks.is)
+    (λ c. rw c.in-Digits.is)
     returns-4)

@@ -5,14 +5,14 @@ use Rattle.runs.specs.inner.Runs.{set_of}
 use Rattle.runs.proofs.runs.set_of.Statement.{statement}
 use Rattle.runs.proofs.runs.set_of.Tie as tie
 
-pub set-of-spec : {M : Type 1} → statement M
+pub set_of_spec : {M : Type 1} → statement M
 unfolding set_of keylike_set
-set-of-spec =
+set_of_spec =
     tie.close
     (tie.spec
     (λ c. search rules)
     (λ c. search rules)
     (λ c. search rules)
-    (λ c. rw c.enum_told.given.1)
-    (λ c. rw c.enum-told2.given.1)
-    (λ c. rw c.enum-told3.given.1))
+    (λ c. rw c.in-Blanks.is)
+    (λ c. rw c.in-Digits.is)
+    (λ c. rw c.in-Keylike.is))
