@@ -19,7 +19,8 @@ def public(crate):
     yield from re.findall(r"^pub (?:extern \"C\" )?fn (\w+)", lib, re.M)
     for kind, body in re.findall(r"^impl (\w+) \{(.*?)^\}", lib, re.M | re.S):
         yield from (f"{kind}::{name}" for name in re.findall(r"^    pub fn (\w+)", body, re.M))
-    yield from re.findall(r"^pub use \w+::([a-z]\w*);", lib, re.M)
+    for names in re.findall(r"^pub use \w+::(\w+|\{[^}]*\});", lib, re.M):
+        yield from re.findall(r"\b[a-z]\w*", names)
 
 
 def changes(edit):
