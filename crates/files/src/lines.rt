@@ -4,6 +4,7 @@ ghost use Rattle.terms.specs.Terms.{bit};
 ghost use Rattle.files.specs.Lines.{is_newline, line_behind};
 
 // 1 for a newline, 0 for any other byte.
+#[tactic(auto, unfolding(crate::specs::Lines::is_newline))]
 fn newline(b: u8) -> usize
     ensures { result ≡ bit (is_newline b) }
 {

@@ -3,86 +3,126 @@ ghost use Rattle.std.specs.Prelude.{◌≡◌, ◌≤◌, length};
 
 use crate::Loaded;
 use crate::printing::output;
+use std::io::{Error, Read, Stdout};
+use std::rt::{Env, Files};
+use std::{fs, str};
 
 // The most bytes that a text, or the names of a sheet, may have.
 const CAP: usize = 65536;
 
-// What reading answers: how many bytes came, 0 where it failed.
+// The system's numbers for what it has against a file.
+const ENOENT: i32 = 2;
+
+const EACCES: i32 = 13;
+
+const ENOTDIR: i32 = 20;
+
+const EISDIR: i32 = 21;
+
+const ENAMETOOLONG: i32 = 36;
+
+// What reading answers: how many bytes came, 0 where it failed; and then the system's number for why, 0 where it has none.
 #[derive(Drop)]
 pub struct Filled {
     pub ok: bool,
     pub length: usize,
+    pub error: i32,
+}
+
+fn came(length: usize) -> Filled
+    ensures { result.length ≡ length }
+{
+    Filled {
+        ok: true,
+        length,
+        error: 0,
+    }
+}
+
+fn failed(error: i32) -> Filled
+    ensures { result.length ≡ 0 }
+{
+    Filled {
+        ok: false,
+        length: 0,
+        error,
+    }
+}
+
+fn number_of(error: Error) -> i32 {
+    error.raw_os_error().unwrap_or(0)
 }
 
 // One line: the file's name, and what is wrong with it.
-fn complain(name: &[u8], what: &[u8]) {
-    output().text(name).text(b": ").text(what).line().flush();
+fn complain(to: Stdout, name: &[u8], what: &[u8]) {
+    output(to).text(name).text(b": ").text(what).line().flush();
 }
 
 // What the system has against the file.
-fn explain(name: &[u8], error: i32) {
+fn explain(to: Stdout, name: &[u8], error: i32) {
     match error {
-        libc::ENOENT => complain(name, b"no such file"),
-        libc::ENOTDIR => complain(name, b"no such file: a part of its path is no directory"),
-        libc::EISDIR => complain(name, b"a directory, where a file is wanted"),
-        libc::EACCES => complain(name, b"may not be read"),
-        libc::ENAMETOOLONG => complain(name, b"too long for the name of a file"),
-        _ => complain(name, b"cannot be read"),
+        ENOENT => complain(to, name, b"no such file"),
+        ENOTDIR => complain(
+            to,
+            name,
+            b"no such file: a part of its path is no directory",
+        ),
+        EISDIR => complain(to, name, b"a directory, where a file is wanted"),
+        EACCES => complain(to, name, b"may not be read"),
+        ENAMETOOLONG => complain(to, name, b"too long for the name of a file"),
+        _ => complain(to, name, b"cannot be read"),
     }
 }
 
 // One read: 0 bytes are the end of the file.
-fn read_some(fd: i32, part: &mut [u8]) -> Filled
+fn read_some(file: &mut impl Read, part: &mut [u8]) -> Filled
     ensures { result.length ≤ length part.new }
 {
-    let got = libc::read(fd, part);
-    Filled {
-        ok: got >= 0,
-        length: io::count(got, part),
+    match file.read(part) {
+        Ok(n) => came(n),
+        Err(error) => failed(number_of(error)),
     }
 }
 
 // Reads up to the end of the file or of the buffer.
-fn fill(fd: i32, text: &mut [u8]) -> Filled
+fn fill(file: &mut impl Read, text: &mut [u8]) -> Filled
     ensures { result.length ≤ length text.new }
 {
     let mut done = 0;
     while done < text.len() {
-        let more = read_some(fd, &mut text[done..]);
+        let more = read_some(file, &mut text[done..]);
         if !more.ok {
-            return Filled {
-                ok: false,
-                length: 0,
-            };
+            return failed(more.error);
         }
         if more.length == 0 {
             break;
         }
         done += more.length;
     }
-    Filled {
-        ok: true,
-        length: done,
+    came(done)
+}
+
+// Opens the file and reads it. The library opens no file whose name is not UTF-8.
+fn fill_from(rt: &impl Files, path: &[u8], text: &mut [u8]) -> Filled
+    ensures { result.length ≤ length text.new }
+{
+    let Ok(path) = str::from_utf8(path) else {
+        return failed(0);
+    };
+    match fs::open(rt, path) {
+        Ok(mut file) => fill(&mut file, text),
+        Err(error) => failed(number_of(error)),
     }
 }
 
 // Reads the file, or says why it cannot.
-fn read(path: &[u8], text: &mut [u8]) -> Filled
+fn read(rt: &impl Files, to: Stdout, path: &[u8], text: &mut [u8]) -> Filled
     ensures { result.length ≤ length text.new }
 {
-    let fd = os::open_read(path);
-    if fd < 0 {
-        explain(path, os::errno());
-        return Filled {
-            ok: false,
-            length: 0,
-        };
-    }
-    let filled = fill(fd, text);
+    let filled = fill_from(rt, path, text);
     if !filled.ok {
-        explain(path, os::errno());
+        explain(to, path, filled.error);
     }
-    libc::close(fd);
     filled
 }
 
@@ -99,25 +139,30 @@ fn nothing() -> Loaded
 
 // Argument i goes to the front of `name`, and the bytes of the file of that name to the front of `text`, which has room for one byte more than
 // the cap, so that a longer file is told from one that just fits.
-pub fn load(i: usize, name: &mut [u8], text: &mut [u8]) -> Loaded
+pub fn load(
+    rt: &(impl Env + Files),
+    to: Stdout,
+    i: usize,
+    name: &mut [u8],
+    text: &mut [u8],
+) -> Loaded
     ensures name_in_bounds { result.name ≤ length name.new }
     ensures text_in_bounds { result.text ≤ length text.new }
 {
-    let n = os::arg(i, name);
-    if os::errno() != 0 {
-        complain(b"an argument", b"too long for the name of a file");
+    let Ok(n) = rt.arg(i, name) else {
+        complain(to, b"an argument", b"too long for the name of a file");
         return nothing();
-    }
+    };
     if n == 0 {
-        complain(b"an empty argument", b"the name of a file is wanted");
+        complain(to, b"an empty argument", b"the name of a file is wanted");
         return nothing();
     }
-    let filled = read(&name[0..n], text);
+    let filled = read(rt, to, &name[0..n], text);
     if !filled.ok {
         return nothing();
     }
     if filled.length > CAP {
-        complain(&name[0..n], b"over 65,536 bytes, the most that is read");
+        complain(to, &name[0..n], b"over 65,536 bytes, the most that is read");
         return nothing();
     }
     Loaded {

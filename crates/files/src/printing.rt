@@ -1,18 +1,21 @@
 //! Standard output, by a buffer: a listing has many short pieces, and a call to the system for each would be slow.
 use crate::Out;
-use libc::STDOUT_FILENO;
+use std::fmt;
+use std::fmt::Write;
+use std::io::Stdout;
 
 // Nothing is on its way.
-pub fn output() -> Out {
+pub fn output(to: Stdout) -> Out {
     Out {
+        to,
         kept: [0; 256],
         used: 0,
     }
 }
 
-fn write(kept: &[u8], used: usize) {
+fn write(to: Stdout, kept: &[u8], used: usize) {
     if used <= kept.len() {
-        io::write_all(STDOUT_FILENO, &kept[0..used]);
+        let _ = Print::write_all(&to, &kept[0..used]);
     }
 }
 
@@ -35,9 +38,10 @@ fn entry_start(table: &[u8], k: u32) -> usize {
 impl Out {
     // What is kept goes to standard output. There is no one to tell if it cannot.
     pub fn flush(self) -> Out {
+        let to = self.to;
         let kept = self.kept;
-        write(&kept, self.used);
-        output()
+        write(to, &kept, self.used);
+        output(to)
     }
 
     pub fn byte(self, b: u8) -> Out {
@@ -65,9 +69,9 @@ impl Out {
     }
 
     pub fn number(self, n: u64) -> Out {
-        let mut digits = [0u8; 20];
-        let k = io::decimal(n, &mut digits);
-        self.text(&digits[0..k])
+        let mut more = self;
+        let _ = write!(more, "{n}");
+        more
     }
 
     // Line k of a table, from 0, without its newline. A table of words is one text, since a choice with an arm for each word is slow to prove.
@@ -87,5 +91,14 @@ impl Out {
     // The end of a line.
     pub fn line(self) -> Out {
         self.byte(b'\n')
+    }
+}
+
+// What std prints goes the same way, and always fits.
+impl Write for Out {
+    fn write_str(&mut self, s: &str) -> fmt::Result {
+        let before = std::mem::replace(self, output(self.to));
+        *self = before.text(s.as_bytes());
+        Ok(())
     }
 }

@@ -4,14 +4,14 @@ use lib.ListN.{length}
 use Rattle.files.proofs.Out.text.Statement.{statement}
 use Rattle.files.proofs.Out.text.Tie as tie
 
-abbrev invariant-loop : tie.invariant-loop
+abbrev invariant-loop : tie.invariant-loop-i
 invariant-loop bytes more₀ i₀ more i = i ≤ length bytes
 
-abbrev decreases-loop : tie.decreases-loop
+abbrev decreases-loop : tie.decreases-loop-i
 decreases-loop bytes more₀ i₀ more i = length bytes - i
 
-pub text-spec : {M : Type 1} → statement M
-text-spec =
+pub text_spec : {M : Type 1} → statement M
+text_spec =
     tie.close
     (tie.spec
     invariant-loop

@@ -9,27 +9,27 @@ use Rattle.files.specs.Lines.{is_newline, line_behind}
 use Rattle.files.proofs.lines.line_behind.Statement.{statement}
 use Rattle.files.proofs.lines.line_behind.Tie as tie
 
-abbrev invariant-loop : tie.invariant-loop
+abbrev invariant-loop : tie.invariant-loop-i
 invariant-loop before line₀ i₀ line i = (i ≤ length before) × (line ≤ i + 1) × (line + count is_newline (drop i before) ≡ line_behind before)
 
-abbrev decreases-loop : tie.decreases-loop
+abbrev decreases-loop : tie.decreases-loop-i
 decreases-loop before line₀ i₀ line i = length before - i
 
-loop-holds : tie.Need-loop-init invariant-loop decreases-loop
+loop-holds : tie.Need-loop-i-init invariant-loop decreases-loop
 unfolding line_behind
 loop-holds c = (search rules, search rules, refl)
 
-add-line : tie.Need-overflow-add-line invariant-loop decreases-loop
-add-line c = omega (arith, c.newline.ensures, bit_le (is_newline (get_or c.before.before.before.before.before.args.before.now c.before.before.before.loop.i 0)))
+add-line : tie.Need-overflow_add-line invariant-loop decreases-loop
+add-line c = omega (arith, c.newline-line.ensures, bit_le (is_newline (get_or c.args.before.now c.loop-i.i 0)))
 
-loop-again : tie.Need-loop-preserved invariant-loop decreases-loop
-loop-again c = omega (arith, c.newline.ensures, bit_le (is_newline (get_or c.before.before.before.before.before.args.before.now c.before.before.before.loop.i 0)), c.before.before.before.loop.invariant.2, count_at is_newline c.before.before.before.before.before.args.before.now c.before.before.before.loop.i 0 (omega arith))
+loop-again : tie.Need-loop-i-preserved invariant-loop decreases-loop
+loop-again c = omega (arith, c.newline-line.ensures, bit_le (is_newline (get_or c.args.before.now c.loop-i.i 0)), c.loop-i.invariant.2, count_at is_newline c.args.before.now c.loop-i.i 0 (omega arith))
 
 returns : tie.Need-returns invariant-loop decreases-loop
-returns c = omega (arith, c.before.loop.invariant.2, count_end is_newline c.before.before.before.args.before.now c.before.loop.i (omega arith))
+returns c = omega (arith, c.loop-i.invariant.2, count_end is_newline c.args.before.now c.loop-i.i (omega arith))
 
-pub line-behind-spec : {M : Type 1} → statement M
-line-behind-spec =
+pub line_behind_spec : {M : Type 1} → statement M
+line_behind_spec =
     tie.close
     (tie.spec
     invariant-loop

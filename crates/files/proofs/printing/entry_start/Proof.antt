@@ -4,14 +4,14 @@ use lib.ListN.{length}
 use Rattle.files.proofs.printing.entry_start.Statement.{statement}
 use Rattle.files.proofs.printing.entry_start.Tie as tie
 
-abbrev invariant-loop : tie.invariant-loop
+abbrev invariant-loop : tie.invariant-loop-i
 invariant-loop table k left₀ i₀ left i = Unit {0}
 
-abbrev decreases-loop : tie.decreases-loop
+abbrev decreases-loop : tie.decreases-loop-i
 decreases-loop table k left₀ i₀ left i = length table - i
 
-pub entry-start-spec : {M : Type 1} → statement M
-entry-start-spec =
+pub entry_start_spec : {M : Type 1} → statement M
+entry_start_spec =
     tie.close
     (tie.spec
     invariant-loop
