@@ -6,18 +6,18 @@ mod scalars;
 mod shorts;
 mod tally;
 
-use libc::STDOUT_FILENO;
+use std::io;
 use tally::print_tally;
 
-fn main() {
-    io::write_all(STDOUT_FILENO, b"one byte:");
-    print_tally(shorts::texts_of(1, 256));
-    io::write_all(STDOUT_FILENO, b"two bytes:");
-    print_tally(shorts::texts_of(2, 65536));
-    io::write_all(STDOUT_FILENO, b"three bytes:");
-    print_tally(shorts::texts_of(3, 25600));
-    io::write_all(STDOUT_FILENO, b"four bytes:");
-    print_tally(shorts::texts_of(4, 256000));
-    io::write_all(STDOUT_FILENO, b"scalars:");
-    scalars::print_found(scalars::all());
+fn main(rt: HostRuntime) -> io::Result<()> {
+    print!(rt; "one byte:")?;
+    print_tally(&rt, shorts::texts_of(1, 256))?;
+    print!(rt; "two bytes:")?;
+    print_tally(&rt, shorts::texts_of(2, 65536))?;
+    print!(rt; "three bytes:")?;
+    print_tally(&rt, shorts::texts_of(3, 25600))?;
+    print!(rt; "four bytes:")?;
+    print_tally(&rt, shorts::texts_of(4, 256000))?;
+    print!(rt; "scalars:")?;
+    scalars::print_found(&rt, scalars::all())
 }

@@ -2,7 +2,7 @@
 use crate::tally::print_number;
 use answers::{Place, Verdict};
 use chars::Read;
-use libc::STDOUT_FILENO;
+use std::io;
 
 // How many are no scalars, how many read back as themselves behind all of their bytes, how many do not, and what screening says of them.
 #[derive(Drop)]
@@ -93,13 +93,13 @@ pub(crate) fn all() -> Found {
     f
 }
 
-pub(crate) fn print_found(f: Found) {
-    print_number(b" none ", f.none as u64);
-    print_number(b", read back ", f.same as u64);
-    print_number(b", not ", f.other as u64);
-    print_number(b", pass screening ", f.passed as u64);
-    print_number(b", refused by 4 ", f.four as u64);
-    print_number(b", by 5 ", f.five as u64);
-    print_number(b", by 6 ", f.six as u64);
-    io::write_all(STDOUT_FILENO, b"\n");
+pub(crate) fn print_found(rt: &impl Print, f: Found) -> io::Result<()> {
+    print_number(rt, " none ", f.none as u64)?;
+    print_number(rt, ", read back ", f.same as u64)?;
+    print_number(rt, ", not ", f.other as u64)?;
+    print_number(rt, ", pass screening ", f.passed as u64)?;
+    print_number(rt, ", refused by 4 ", f.four as u64)?;
+    print_number(rt, ", by 5 ", f.five as u64)?;
+    print_number(rt, ", by 6 ", f.six as u64)?;
+    println!(rt)
 }

@@ -1,7 +1,7 @@
 //! What is counted of some texts: how many read as a character, how many as ill-formed, the sum of the characters and of the next places.
 use answers::Place;
 use chars::Read;
-use libc::STDOUT_FILENO;
+use std::io;
 
 #[derive(Drop)]
 pub struct Tally {
@@ -53,16 +53,15 @@ pub(crate) fn with_text(t: Tally, text: &[u8]) -> Tally {
     }
 }
 
-pub(crate) fn print_number(label: &[u8], n: u64) {
-    io::write_all(STDOUT_FILENO, label);
-    io::print_decimal(STDOUT_FILENO, n);
+pub(crate) fn print_number(rt: &impl Print, label: &str, n: u64) -> io::Result<()> {
+    print!(rt; "{label}{n}")
 }
 
-pub(crate) fn print_tally(t: Tally) {
-    print_number(b" characters ", t.characters);
-    print_number(b", ill-formed ", t.ill);
-    print_number(b", ends ", t.ends);
-    print_number(b", sum ", t.sum);
-    print_number(b", next places ", t.places);
-    io::write_all(STDOUT_FILENO, b"\n");
+pub(crate) fn print_tally(rt: &impl Print, t: Tally) -> io::Result<()> {
+    print_number(rt, " characters ", t.characters)?;
+    print_number(rt, ", ill-formed ", t.ill)?;
+    print_number(rt, ", ends ", t.ends)?;
+    print_number(rt, ", sum ", t.sum)?;
+    print_number(rt, ", next places ", t.places)?;
+    println!(rt)
 }
