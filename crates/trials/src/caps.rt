@@ -1,6 +1,7 @@
 //! The sheets at the edges of the caps: 256 items and 2,048 dependencies pass, one more of either is 27, and no items are accepted.
 use crate::print_answer;
 use crate::sheet::put;
+use std::io;
 
 // Item i is named by the two bytes from 2i on. It needs the item before it eight times, item 1 sixteen times.
 fn put_item(words: &mut [u32], i: u32) {
@@ -46,27 +47,28 @@ fn write_full(words: &mut [u32], names: &mut [u8]) {
     }
 }
 
-fn print_full() {
+fn print_full(rt: &impl Print) -> io::Result<()> {
     let mut words = [0u32; 9221];
     let mut names = [0u8; 512];
     let mut order = [7u32; 256];
     write_full(&mut words, &mut names);
     print_answer(
-        b"256 items, 2048 dependencies: ",
+        rt,
+        "256 items, 2048 dependencies: ",
         clerk::toposort(&words, &names, &mut order),
-    );
+    )
 }
 
 // A header alone.
-fn print_header(label: &[u8], n: u32, e: u32) {
+fn print_header(rt: &impl Print, label: &str, n: u32, e: u32) -> io::Result<()> {
     let words = [n, e, 5, 5, 5];
     let mut order = [7u32; 4];
-    print_answer(label, clerk::toposort(&words, b"", &mut order));
+    print_answer(rt, label, clerk::toposort(&words, b"", &mut order))
 }
 
-pub(crate) fn print_all() {
-    print_full();
-    print_header(b"257 items: ", 257, 0);
-    print_header(b"2049 dependencies: ", 0, 2049);
-    print_header(b"no items: ", 0, 0);
+pub(crate) fn print_all(rt: &impl Print) -> io::Result<()> {
+    print_full(rt)?;
+    print_header(rt, "257 items: ", 257, 0)?;
+    print_header(rt, "2049 dependencies: ", 0, 2049)?;
+    print_header(rt, "no items: ", 0, 0)
 }

@@ -11,7 +11,7 @@ mod sheet;
 
 use answers::Verdict;
 use clerk::Sorted;
-use libc::STDOUT_FILENO;
+use std::io;
 
 // How many sheets were tried, how many got an order, how many 30; how many lists were checked and how many accepted; and how many answers differ.
 #[derive(Drop)]
@@ -85,22 +85,21 @@ fn with_items(from: Tally, n: u32) -> Tally {
     t
 }
 
-fn print_number(label: &[u8], n: u32) {
-    io::write_all(STDOUT_FILENO, label);
-    io::print_decimal(STDOUT_FILENO, n as u64);
+fn print_number(rt: &impl Print, label: &str, n: u32) -> io::Result<()> {
+    print!(rt; "{label}{n}")
 }
 
 // The three numbers of an answer.
-pub(crate) fn print_answer(label: &[u8], r: Sorted) {
+pub(crate) fn print_answer(rt: &impl Print, label: &str, r: Sorted) -> io::Result<()> {
     let verdict: Verdict = r.verdict;
     let told = verdict.numbers();
-    print_number(label, told.number);
-    print_number(b", detail ", told.detail);
-    print_number(b", settled ", r.settled);
-    io::write_all(STDOUT_FILENO, b"\n");
+    print_number(rt, label, told.number)?;
+    print_number(rt, ", detail ", told.detail)?;
+    print_number(rt, ", settled ", r.settled)?;
+    println!(rt)
 }
 
-fn main() {
+fn main(rt: HostRuntime) -> io::Result<()> {
     let mut t = Tally {
         sheets: 0,
         orders: 0,
@@ -112,12 +111,12 @@ fn main() {
     for n in 0u32..4 {
         t = with_items(t, n);
     }
-    print_number(b"sheets ", t.sheets);
-    print_number(b", orders ", t.orders);
-    print_number(b", cycles ", t.cycles);
-    print_number(b", lists ", t.lists);
-    print_number(b", accepted ", t.accepted);
-    print_number(b", answers that differ ", t.differ);
-    io::write_all(STDOUT_FILENO, b"\n");
-    caps::print_all();
+    print_number(&rt, "sheets ", t.sheets)?;
+    print_number(&rt, ", orders ", t.orders)?;
+    print_number(&rt, ", cycles ", t.cycles)?;
+    print_number(&rt, ", lists ", t.lists)?;
+    print_number(&rt, ", accepted ", t.accepted)?;
+    print_number(&rt, ", answers that differ ", t.differ)?;
+    println!(rt)?;
+    caps::print_all(&rt)
 }
