@@ -1,9 +1,10 @@
 //! A proposed order, read and checked against a list.
 use crate::{building, names, proposed, reading, saying, sorting};
 use answers::{Refusal, Verdict};
+use std::io::Stdout;
 
-fn print_good(name: &[u8], items: u32) {
-    saying::file(name)
+fn print_good(to: Stdout, name: &[u8], items: u32) {
+    saying::file(to, name)
         .text(b" a load order of ")
         .number(items as u64)
         .text(b" items\n")
@@ -12,6 +13,7 @@ fn print_good(name: &[u8], items: u32) {
 
 // 33 is about the order, the other refusals are about the list.
 fn print_refusal(
+    to: Stdout,
     order_name: &[u8],
     order: &[u8],
     rows: &[u32],
@@ -24,13 +26,14 @@ fn print_refusal(
 ) {
     let told = refusal.numbers();
     if told.number == 33 {
-        proposed::print_fault(order_name, order, rows, text, sheet, items, list, told);
+        proposed::print_fault(to, order_name, order, rows, text, sheet, items, list, told);
         return;
     }
-    sorting::print_refusal(name, text, sheet, items, refusal, 0);
+    sorting::print_refusal(to, name, text, sheet, items, refusal, 0);
 }
 
 fn check(
+    to: Stdout,
     order_name: &[u8],
     order: &[u8],
     rows: &[u32],
@@ -42,9 +45,9 @@ fn check(
 ) {
     names::fill(list, text, sheet, items, order, rows);
     match planner::check_order(sheet, text, list) {
-        Verdict::Accepted => print_good(order_name, items),
+        Verdict::Accepted => print_good(to, order_name, items),
         Verdict::Refused(refusal) => print_refusal(
-            order_name, order, rows, name, text, sheet, items, list, refusal,
+            to, order_name, order, rows, name, text, sheet, items, list, refusal,
         ),
     }
 }
@@ -54,15 +57,15 @@ fn shortened(names: u32) -> usize {
     if names < 257 { names as usize } else { 257 }
 }
 
-pub(crate) fn print(order_name: &[u8], order: &[u8], name: &[u8], text: &[u8]) {
+pub(crate) fn print(to: Stdout, order_name: &[u8], order: &[u8], name: &[u8], text: &[u8]) {
     let mut rows = [0u32; 1033];
     let listed = reading::read(order, true, &mut rows, &mut []);
     if listed.fault > 0 {
-        saying::print_fault(order_name, listed.line, listed.fault);
+        saying::print_fault(to, order_name, listed.line, listed.fault);
         return;
     }
     let mut words = [0u32; 9221];
-    let built = building::build(name, text, &mut words);
+    let built = building::build(to, name, text, &mut words);
     if !built.ok {
         return;
     }
@@ -76,6 +79,7 @@ pub(crate) fn print(order_name: &[u8], order: &[u8], name: &[u8], text: &[u8]) {
         return;
     }
     check(
+        to,
         order_name,
         order,
         &rows,

@@ -14,29 +14,31 @@ mod sorting;
 mod words;
 
 use options::Task;
+use std::io::Stdout;
+use std::rt::{Env, Files};
 
-fn sort(file: usize, task: Task) {
-    let mut name = io::buffer();
+fn sort(rt: &(impl Env + Files), to: Stdout, file: usize, task: Task) {
+    let mut name = [0u8; 4096];
     let mut text = [0u8; 65537];
-    let loaded = files::load(file, &mut name, &mut text);
+    let loaded = files::load(rt, to, file, &mut name, &mut text);
     if !loaded.ok {
         return;
     }
     let n = loaded.name;
     let length = loaded.text;
-    sorting::print(&name[0..n], &text[0..length], task);
+    sorting::print(to, &name[0..n], &text[0..length], task);
 }
 
-fn check(order: usize, file: usize) {
-    let mut order_name = io::buffer();
+fn check(rt: &(impl Env + Files), to: Stdout, order: usize, file: usize) {
+    let mut order_name = [0u8; 4096];
     let mut order_text = [0u8; 65537];
-    let proposed = files::load(order, &mut order_name, &mut order_text);
+    let proposed = files::load(rt, to, order, &mut order_name, &mut order_text);
     if !proposed.ok {
         return;
     }
-    let mut name = io::buffer();
+    let mut name = [0u8; 4096];
     let mut text = [0u8; 65537];
-    let loaded = files::load(file, &mut name, &mut text);
+    let loaded = files::load(rt, to, file, &mut name, &mut text);
     if !loaded.ok {
         return;
     }
@@ -45,6 +47,7 @@ fn check(order: usize, file: usize) {
     let n = loaded.name;
     let length = loaded.text;
     checking::print(
+        to,
         &order_name[0..p],
         &order_text[0..order_length],
         &name[0..n],
@@ -52,12 +55,13 @@ fn check(order: usize, file: usize) {
     );
 }
 
-fn main() {
-    let task = options::asked();
+fn main(rt: HostRuntime) {
+    let to = rt.stdout();
+    let task = options::asked(&rt);
     match task {
-        Task::Help => options::print_usage(),
-        Task::Sort => sort(1, task),
-        Task::Propose => sort(2, task),
-        Task::Check => check(2, 3),
+        Task::Help => options::print_usage(to),
+        Task::Sort => sort(&rt, to, 1, task),
+        Task::Propose => sort(&rt, to, 2, task),
+        Task::Check => check(&rt, to, 2, 3),
     }
 }

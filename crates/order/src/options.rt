@@ -1,6 +1,8 @@
 //! What the arguments ask for.
+use std::io::Stdout;
+use std::rt::Env;
 
-#[derive(Drop)]
+#[derive(Clone, Copy)]
 pub enum Task {
     Sort,
     Propose,
@@ -8,8 +10,8 @@ pub enum Task {
     Help,
 }
 
-pub(crate) fn print_usage() {
-    files::output()
+pub(crate) fn print_usage(to: Stdout) {
+    files::output(to)
         .text(
             b"\
             usage: order FILE\n\
@@ -52,8 +54,8 @@ fn task_of(word: &[u8], count: usize) -> Task {
     Task::Sort
 }
 
-pub(crate) fn asked() -> Task {
-    let mut buffer = io::buffer();
-    let n = os::arg(1, &mut buffer);
-    task_of(&buffer[0..n], os::arg_count())
+pub(crate) fn asked(rt: &impl Env) -> Task {
+    let mut buffer = [0u8; 4096];
+    let n = files::argument(rt, 1, &mut buffer);
+    task_of(&buffer[0..n], files::argument_count(rt))
 }

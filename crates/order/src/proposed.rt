@@ -3,6 +3,7 @@ use crate::sheet::word;
 use crate::{names, saying};
 use answers::Numbers;
 use files::Out;
+use std::io::Stdout;
 
 // The first item that the list lacks.
 fn missing(list: &[u32], items: u32) -> u32 {
@@ -30,22 +31,22 @@ fn unmet(list: &[u32], text: &[u8], sheet: &[u32], items: u32, item: u32) -> u32
     row
 }
 
-fn said(name: &[u8], order: &[u8], rows: &[u32], k: u32) -> Out {
-    let out = saying::line_at(name, order, rows, k).text(b"no load order: ");
+fn said(to: Stdout, name: &[u8], order: &[u8], rows: &[u32], k: u32) -> Out {
+    let out = saying::line_at(to, name, order, rows, k).text(b"no load order: ");
     saying::name_of(out, order, rows, k)
 }
 
 // The list ends too soon.
-fn print_short(name: &[u8], text: &[u8], sheet: &[u32], lacking: u32, told: Numbers) {
-    let out = saying::file(name).text(b" no load order: it ends without ");
+fn print_short(to: Stdout, name: &[u8], text: &[u8], sheet: &[u32], lacking: u32, told: Numbers) {
+    let out = saying::file(to, name).text(b" no load order: it ends without ");
     saying::name_of(out, text, sheet, lacking)
         .numbers(told)
         .flush();
 }
 
 // A name that is no item, or comes again.
-fn print_word(name: &[u8], order: &[u8], rows: &[u32], what: &[u8], told: Numbers) {
-    said(name, order, rows, told.detail)
+fn print_word(to: Stdout, name: &[u8], order: &[u8], rows: &[u32], what: &[u8], told: Numbers) {
+    said(to, name, order, rows, told.detail)
         .text(what)
         .numbers(told)
         .flush();
@@ -53,6 +54,7 @@ fn print_word(name: &[u8], order: &[u8], rows: &[u32], what: &[u8], told: Number
 
 // An item whose dependency does not stand before it.
 fn print_early(
+    to: Stdout,
     name: &[u8],
     order: &[u8],
     rows: &[u32],
@@ -61,7 +63,7 @@ fn print_early(
     row: u32,
     told: Numbers,
 ) {
-    let out = said(name, order, rows, told.detail).text(b" needs ");
+    let out = said(to, name, order, rows, told.detail).text(b" needs ");
     saying::name_of(out, text, sheet, row)
         .text(b", which does not stand before it")
         .numbers(told)
@@ -70,6 +72,7 @@ fn print_early(
 
 // 33, by the list's first fault.
 pub(crate) fn print_fault(
+    to: Stdout,
     name: &[u8],
     order: &[u8],
     rows: &[u32],
@@ -81,18 +84,18 @@ pub(crate) fn print_fault(
 ) {
     let k = told.detail as usize;
     if list.len() <= k {
-        print_short(name, text, sheet, missing(list, items), told);
+        print_short(to, name, text, sheet, missing(list, items), told);
         return;
     }
     let item = list[k];
     if items <= item {
-        print_word(name, order, rows, b" is no item of the list", told);
+        print_word(to, name, order, rows, b" is no item of the list", told);
         return;
     }
     if names::has(&list[0..k], item) {
-        print_word(name, order, rows, b" comes again", told);
+        print_word(to, name, order, rows, b" comes again", told);
         return;
     }
     let row = unmet(&list[0..k], text, sheet, items, item);
-    print_early(name, order, rows, text, sheet, row, told);
+    print_early(to, name, order, rows, text, sheet, row, told);
 }

@@ -13,7 +13,7 @@ const COLON_IN_ORDER: u32 = 4;
 
 // Where the reading stands: how many items and dependencies there were, the line, whether it has had its name and its colon, and its fault. In an
 // order each name is an item, so a line never has had its name.
-#[derive(Drop)]
+#[derive(Clone, Copy)]
 pub struct Listed {
     pub is_order: bool,
     pub items: u32,

@@ -2,14 +2,15 @@
 use crate::sheet::word;
 use answers::Numbers;
 use files::Out;
+use std::io::Stdout;
 
-pub(crate) fn file(name: &[u8]) -> Out {
-    files::output().text(name).byte(b':')
+pub(crate) fn file(to: Stdout, name: &[u8]) -> Out {
+    files::output(to).text(name).byte(b':')
 }
 
 // A line that is no item and what it needs.
-pub(crate) fn print_fault(name: &[u8], line: u32, fault: u32) {
-    file(name)
+pub(crate) fn print_fault(to: Stdout, name: &[u8], line: u32, fault: u32) {
+    file(to, name)
         .number(line as u64)
         .text(b": ")
         .entry(
@@ -27,8 +28,8 @@ pub(crate) fn print_fault(name: &[u8], line: u32, fault: u32) {
 }
 
 // What has no line of its own.
-pub(crate) fn print_plain(name: &[u8], told: Numbers) {
-    file(name)
+pub(crate) fn print_plain(to: Stdout, name: &[u8], told: Numbers) {
+    file(to, name)
         .byte(b' ')
         .message(told.number)
         .numbers(told)
@@ -57,19 +58,21 @@ fn line_of(text: &[u8], at: usize) -> usize {
 }
 
 // The file, and the line of row r.
-pub(crate) fn line_at(name: &[u8], text: &[u8], sheet: &[u32], r: u32) -> Out {
+pub(crate) fn line_at(to: Stdout, name: &[u8], text: &[u8], sheet: &[u32], r: u32) -> Out {
     let line = line_of(text, word(sheet, r, 0) as usize);
-    file(name).number(line as u64).text(b": ")
+    file(to, name).number(line as u64).text(b": ")
 }
 
 // The file, the line of row r, and what is wrong.
-fn placed(name: &[u8], text: &[u8], sheet: &[u32], r: u32, number: u32) -> Out {
-    line_at(name, text, sheet, r).message(number).text(b": ")
+fn placed(to: Stdout, name: &[u8], text: &[u8], sheet: &[u32], r: u32, number: u32) -> Out {
+    line_at(to, name, text, sheet, r)
+        .message(number)
+        .text(b": ")
 }
 
 // 28: an item whose name an earlier one has.
-pub(crate) fn print_item(name: &[u8], text: &[u8], sheet: &[u32], told: Numbers) {
-    let said = placed(name, text, sheet, told.detail, told.number);
+pub(crate) fn print_item(to: Stdout, name: &[u8], text: &[u8], sheet: &[u32], told: Numbers) {
+    let said = placed(to, name, text, sheet, told.detail, told.number);
     name_of(said, text, sheet, told.detail)
         .numbers(told)
         .flush();
@@ -90,22 +93,30 @@ fn owner_of(sheet: &[u32], items: u32, need: u32) -> u32 {
     owner
 }
 
-fn needing(name: &[u8], text: &[u8], sheet: &[u32], items: u32, told: Numbers) -> Out {
+fn needing(to: Stdout, name: &[u8], text: &[u8], sheet: &[u32], items: u32, told: Numbers) -> Out {
     let row = std::num::wrapping_add_u32(items, told.detail);
-    let said = placed(name, text, sheet, row, told.number);
+    let said = placed(to, name, text, sheet, row, told.number);
     let owner = name_of(said, text, sheet, owner_of(sheet, items, told.detail));
     name_of(owner.text(b" needs "), text, sheet, row)
 }
 
 // 29: a dependency on a name that is not listed.
-pub(crate) fn print_unknown(name: &[u8], text: &[u8], sheet: &[u32], items: u32, told: Numbers) {
-    needing(name, text, sheet, items, told)
+pub(crate) fn print_unknown(
+    to: Stdout,
+    name: &[u8],
+    text: &[u8],
+    sheet: &[u32],
+    items: u32,
+    told: Numbers,
+) {
+    needing(to, name, text, sheet, items, told)
         .numbers(told)
         .flush();
 }
 
 // 30: the first dependency that could not be settled and whose item could not be placed; it need not lie on the circle itself.
 pub(crate) fn print_circle(
+    to: Stdout,
     name: &[u8],
     text: &[u8],
     sheet: &[u32],
@@ -113,7 +124,7 @@ pub(crate) fn print_circle(
     told: Numbers,
     settled: u32,
 ) {
-    needing(name, text, sheet, items, told)
+    needing(to, name, text, sheet, items, told)
         .text(b", which cannot be placed; settled ")
         .number(settled as u64)
         .numbers(told)
