@@ -2,6 +2,7 @@
 use answers::Place;
 use chars::Read;
 use files::Out;
+use std::fmt::Write;
 
 // A number that is no character, for a byte that is part of none.
 const NONE: u32 = 0xFFFFFFFF;
@@ -47,33 +48,16 @@ pub(crate) fn character(out: Out, c: u32) -> Out {
 }
 
 pub(crate) fn hex(out: Out, n: u32) -> Out {
-    let mut digits = [0u8; 16];
-    let k = io::hex(n as u64, 1, &mut digits);
-    out.text(&digits[0..k])
-}
-
-fn capital(b: u8) -> u8 {
-    match b {
-        b'a'..=b'f' => b - 32,
-        _ => b,
-    }
-}
-
-fn capitals(from: Out, digits: &[u8]) -> Out {
-    let mut out = from;
-    let mut i = 0;
-    while i < digits.len() {
-        out = out.byte(capital(digits[i]));
-        i += 1;
-    }
-    out
+    let mut more = out;
+    let _ = write!(more, "{n:x}");
+    more
 }
 
 // A character by its number, as Unicode writes it.
 pub(crate) fn code_point(out: Out, c: u32) -> Out {
-    let mut digits = [0u8; 16];
-    let k = io::hex(c as u64, 4, &mut digits);
-    capitals(out.text(b"U+"), &digits[0..k])
+    let mut more = out;
+    let _ = write!(more, "U+{c:04X}");
+    more
 }
 
 // As between the quotes of a string of Rust: one line, from which the text can be told.

@@ -1,6 +1,8 @@
 //! What the arguments ask for.
+use std::io::Stdout;
+use std::rt::Env;
 
-#[derive(Drop)]
+#[derive(Clone, Copy)]
 pub struct Asked {
     pub filtered: bool,
     pub numbers: bool,
@@ -38,9 +40,9 @@ fn word_of(word: &[u8]) -> Word {
 }
 
 // What is asked for with one argument more.
-fn with_word(asked: Asked, i: usize) -> Asked {
-    let mut buffer = io::buffer();
-    let n = os::arg(i, &mut buffer);
+fn with_word(rt: &impl Env, asked: Asked, i: usize) -> Asked {
+    let mut buffer = [0u8; 4096];
+    let n = files::argument(rt, i, &mut buffer);
     let mut more = asked;
     match word_of(&buffer[0..n]) {
         Word::Filtered => more.filtered = true,
@@ -59,7 +61,7 @@ fn with_word(asked: Asked, i: usize) -> Asked {
 }
 
 // With no file there is nothing to do but to say what the program is for.
-pub(crate) fn arguments() -> Asked {
+pub(crate) fn arguments(rt: &impl Env) -> Asked {
     let mut asked = Asked {
         filtered: false,
         numbers: false,
@@ -67,10 +69,10 @@ pub(crate) fn arguments() -> Asked {
         file: 0,
         wrong: 0,
     };
-    let count = os::arg_count();
+    let count = files::argument_count(rt);
     let mut i = 1;
     while i < count {
-        asked = with_word(asked, i);
+        asked = with_word(rt, asked, i);
         i += 1;
     }
     if asked.file == 0 {
@@ -79,8 +81,8 @@ pub(crate) fn arguments() -> Asked {
     asked
 }
 
-pub(crate) fn print_usage() {
-    files::output()
+pub(crate) fn print_usage(to: Stdout) {
+    files::output(to)
         .text(
             b"\
             usage: rows [--filtered] [--numbers] FILE\n\
@@ -98,14 +100,14 @@ pub(crate) fn print_usage() {
 }
 
 // An argument that is no option, or one file too many.
-pub(crate) fn print_wrong(i: usize) {
-    let mut buffer = io::buffer();
-    let n = os::arg(i, &mut buffer);
+pub(crate) fn print_wrong(rt: &impl Env, to: Stdout, i: usize) {
+    let mut buffer = [0u8; 4096];
+    let n = files::argument(rt, i, &mut buffer);
     let word = &buffer[0..n];
     let said = match word_of(word) {
-        Word::File => files::output().text(b"one file is wanted, and this is a second: "),
-        _ => files::output().text(b"no such option: "),
+        Word::File => files::output(to).text(b"one file is wanted, and this is a second: "),
+        _ => files::output(to).text(b"no such option: "),
     };
     said.text(word).line().flush();
-    print_usage();
+    print_usage(to);
 }

@@ -6,6 +6,7 @@ use crate::refusing;
 use answers::Place;
 use files::Out;
 use kinds::Token;
+use std::io::Stdout;
 use steps::{Moved, Opened, Step};
 
 // Where the printing stands.
@@ -114,8 +115,8 @@ fn print_from(from: Out, start: Place, name: &[u8], text: &[u8], asked: Asked) -
     out
 }
 
-pub(crate) fn print(name: &[u8], text: &[u8], asked: Asked) {
-    let out = files::output();
+pub(crate) fn print(to: Stdout, name: &[u8], text: &[u8], asked: Asked) {
+    let out = files::output(to);
     let printed = match steps::open(text, 0) {
         Opened::Refused(refusal) => refusing::print(out, name, text, refusal),
         Opened::At(start) => print_from(out, start, name, text, asked),
