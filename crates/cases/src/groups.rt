@@ -2,9 +2,9 @@
 ghost use Rattle.std.specs.Prelude.{◌<◌};
 
 use crate::fields::{field, same};
-use libc::STDOUT_FILENO;
+use std::io::Stdout;
 
-#[derive(Drop)]
+#[derive(Clone, Copy)]
 pub enum Call {
     Open,
     NextRaw,
@@ -80,6 +80,6 @@ pub(crate) fn call_of(name: &[u8]) -> Call {
     Call::Edge
 }
 
-pub(crate) fn print_name(group: usize) {
-    io::write_all(STDOUT_FILENO, field(&NAMES, group));
+pub(crate) fn print_name(to: Stdout, group: usize) {
+    let _ = to.write_all(field(&NAMES, group));
 }

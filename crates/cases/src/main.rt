@@ -7,6 +7,7 @@ mod asked;
 mod calls;
 mod chain;
 mod edges;
+mod failing;
 mod fields;
 mod groups;
 mod items;
@@ -17,31 +18,50 @@ mod replay;
 mod running;
 mod tally;
 
+use std::fs::File;
+use std::io::{Error, ErrorKind, Stderr};
+use std::rt::{Env, Files};
+use std::{fs, io, str};
 use tally::Tally;
 
-// The list in the file of this name, as far as it can be read.
-fn replayed(path: &[u8], tally: Tally) -> Tally {
-    let fd = os::open_read(path);
-    if fd < 0 {
-        os::fail(path);
-        return tally;
+// The library opens no file whose name is not UTF-8.
+fn open(rt: &impl Files<File = File>, path: &[u8]) -> io::Result<File> {
+    match str::from_utf8(path) {
+        Ok(path) => fs::open(rt, path),
+        Err(_) => Err(Error::from(ErrorKind::InvalidFilename)),
     }
-    let mut buffer = [0u8; 8192];
-    let counted = replay::replay(tally, fd, &mut buffer);
-    libc::close(fd);
-    counted
+}
+
+// The list in the file of this name, as far as it can be read.
+fn replayed(rt: &impl Files<File = File>, to: Stderr, path: &[u8], tally: Tally) -> Tally {
+    match open(rt, path) {
+        Ok(mut file) => {
+            let mut buffer = [0u8; 8192];
+            replay::replay(tally, &mut file, &mut buffer)
+        }
+        Err(error) => {
+            failing::fail(to, path, error);
+            tally
+        }
+    }
 }
 
 // The list that the program is told to replay, and `answers.txt` where it is told none.
-fn told(path: &[u8]) -> Tally {
+fn told(rt: &impl Files<File = File>, to: Stderr, path: &[u8], tally: Tally) -> Tally {
     if path.len() == 0 {
-        return replayed(b"answers.txt", tally::nothing());
+        return replayed(rt, to, b"answers.txt", tally);
     }
-    replayed(path, tally::nothing())
+    replayed(rt, to, path, tally)
 }
 
-fn main() {
-    let mut path = io::buffer();
-    let length = os::arg(1, &mut path);
-    tally::print_tally(edges::with_edges(told(&path[..length])));
+fn main(rt: HostRuntime) {
+    let mut path = [0u8; 4096];
+    let length = rt.arg(1, &mut path).unwrap_or(0);
+    let tally = told(
+        &rt,
+        rt.stderr(),
+        &path[..length],
+        tally::nothing(rt.stdout()),
+    );
+    tally::print_tally(edges::with_edges(tally));
 }

@@ -1,6 +1,9 @@
 //! The list, read by chunks: a lent buffer holds some bytes of the file, and whole lines are taken off its front.
 ghost use Rattle.std.specs.Prelude.{◌≤◌, length};
 
+use std::fs::File;
+use std::io::Read;
+
 // The first place from a place on where a byte stands, or the end.
 pub(crate) fn find(bytes: &[u8], byte: u8, from: usize) -> usize
     requires { from ≤ length bytes.now }
@@ -31,12 +34,12 @@ pub(crate) fn whole_lines(bytes: &[u8]) -> usize
 }
 
 // Reads on behind what is held, and answers how many bytes are held then: no more where the file has ended or the buffer is full.
-pub(crate) fn refill(fd: i32, buffer: &mut [u8], held: usize) -> usize
+pub(crate) fn refill(file: &mut File, buffer: &mut [u8], held: usize) -> usize
     requires { held ≤ length buffer.old }
     ensures { (held ≤ result) × (result ≤ length buffer.new) }
 {
-    let got = libc::read(fd, &mut buffer[held..]);
-    held + io::count(got, &buffer[held..])
+    let got = file.read(&mut buffer[held..]);
+    held + got.unwrap_or(0)
 }
 
 // Moves the held bytes from a place on to the front, and answers how many they are.

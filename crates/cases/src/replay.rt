@@ -6,6 +6,7 @@ use crate::memory::Outcome;
 use crate::reading::{find, keep, refill, whole_lines};
 use crate::running::run_line;
 use crate::tally::{Tally, with_comment, with_different, with_line, with_malformed, with_same};
+use std::fs::File;
 
 // What is counted so far, how many bytes at the buffer's front are held, and whether nothing more can be read.
 #[derive(Drop)]
@@ -68,13 +69,13 @@ fn replay_lines(from: Tally, lines: &[u8]) -> Tally {
 }
 
 // One chunk more, read behind the held bytes: its whole lines, and what is held then.
-fn replay_some(from: Progress, fd: i32, buffer: &mut [u8]) -> Progress {
+fn replay_some(from: Progress, file: &mut File, buffer: &mut [u8]) -> Progress {
     let held = from.held;
     let before = from.tally;
     if buffer.len() < held {
         return ended(before, held);
     }
-    let more = refill(fd, buffer, held);
+    let more = refill(file, buffer, held);
     if more == held {
         return ended(before, held);
     }
@@ -98,11 +99,11 @@ fn with_rest(progress: Progress) -> Tally {
 }
 
 // The whole file. Nothing says that a file ends, so the turns are counted down from a number that no run uses up.
-pub(crate) fn replay(from: Tally, fd: i32, buffer: &mut [u8]) -> Tally {
+pub(crate) fn replay(from: Tally, file: &mut File, buffer: &mut [u8]) -> Tally {
     let mut progress = started(from);
     let mut turns = u64::MAX;
     while turns > 0 && !progress.ends {
-        progress = replay_some(progress, fd, buffer);
+        progress = replay_some(progress, file, buffer);
         turns -= 1;
     }
     with_rest(progress)

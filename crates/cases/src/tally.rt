@@ -2,10 +2,12 @@
 ghost use Rattle.std.specs.Prelude.{◌<◌};
 
 use crate::groups::{Call, GROUPS, group, print_name};
-use libc::STDOUT_FILENO;
+use std::io::Stdout;
 
-#[derive(Drop)]
+#[derive(Clone, Copy)]
 pub struct Tally {
+    // where it is printed; there is no one to tell if it cannot be
+    pub to: Stdout,
     pub lines: u32,
     pub comments: u32,
     pub malformed: u32,
@@ -14,8 +16,9 @@ pub struct Tally {
     pub differ: [u32; 12],
 }
 
-pub(crate) fn nothing() -> Tally {
+pub(crate) fn nothing(to: Stdout) -> Tally {
     Tally {
+        to,
         lines: 0,
         comments: 0,
         malformed: 0,
@@ -44,8 +47,8 @@ pub(crate) fn with_comment(from: Tally) -> Tally {
 pub(crate) fn with_malformed(from: Tally) -> Tally {
     let mut t = from;
     t.malformed = one_more(t.malformed);
-    print_number(b"line ", t.lines);
-    io::write_all(STDOUT_FILENO, b" is malformed\n");
+    print_number(t.to, b"line ", t.lines);
+    print(t.to, b" is malformed\n");
     t
 }
 
@@ -62,25 +65,29 @@ pub(crate) fn with_different(from: Tally, call: Call, label: &[u8], number: u32)
     let mut t = with_same(from, call);
     let i = group(call);
     t.differ[i] = one_more(t.differ[i]);
-    print_number(label, number);
-    io::write_all(STDOUT_FILENO, b" differs: ");
-    print_name(i);
-    io::write_all(STDOUT_FILENO, b"\n");
+    print_number(t.to, label, number);
+    print(t.to, b" differs: ");
+    print_name(t.to, i);
+    print(t.to, b"\n");
     t
 }
 
-fn print_number(label: &[u8], n: u32) {
-    io::write_all(STDOUT_FILENO, label);
-    io::print_decimal(STDOUT_FILENO, n as u64);
+fn print(to: Stdout, bytes: &[u8]) {
+    let _ = to.write_all(bytes);
+}
+
+fn print_number(to: Stdout, label: &[u8], n: u32) {
+    print(to, label);
+    let _ = print!(to; "{n}");
 }
 
 fn print_group(t: Tally, i: usize)
     requires { i < 12 }
 {
-    print_name(i);
-    print_number(b": ", t.cases[i]);
-    print_number(b" cases, ", t.differ[i]);
-    io::write_all(STDOUT_FILENO, b" differ\n");
+    print_name(t.to, i);
+    print_number(t.to, b": ", t.cases[i]);
+    print_number(t.to, b" cases, ", t.differ[i]);
+    print(t.to, b" differ\n");
 }
 
 fn print_groups(t: Tally) {
@@ -90,9 +97,9 @@ fn print_groups(t: Tally) {
 }
 
 pub(crate) fn print_tally(t: Tally) {
-    print_number(b"", t.lines);
-    print_number(b" lines: ", t.comments);
-    print_number(b" comments, ", t.malformed);
-    io::write_all(STDOUT_FILENO, b" malformed\n");
+    print_number(t.to, b"", t.lines);
+    print_number(t.to, b" lines: ", t.comments);
+    print_number(t.to, b" comments, ", t.malformed);
+    print(t.to, b" malformed\n");
     print_groups(t);
 }

@@ -15,7 +15,7 @@ pub fn output(to: Stdout) -> Out {
 
 fn write(to: Stdout, kept: &[u8], used: usize) {
     if used <= kept.len() {
-        let _ = Print::write_all(&to, &kept[0..used]);
+        let _ = to.write_all(&kept[0..used]);
     }
 }
 
