@@ -14,6 +14,7 @@ use runs::{Ran, Run};
 use strings::Literal;
 
 // The rule that a first character calls for: one choice over character numbers and ranges.
+#[tactic(auto, unfolding(crate::specs::Tokens::rule_of, crate::specs::Tokens::rules, terms::specs::Terms::said, terms::specs::Terms::within))]
 fn rule_of(c: u32) -> Rule
     ensures { result ≡ rule_of c }
 {

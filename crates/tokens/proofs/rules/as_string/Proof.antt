@@ -4,12 +4,12 @@ use Rattle.tokens.specs.Tokens.{as_string}
 use Rattle.tokens.proofs.rules.as_string.Statement.{statement}
 use Rattle.tokens.proofs.rules.as_string.Tie as tie
 
-pub as-string-spec : {M : Type 1} → statement M
+pub as_string_spec : {M : Type 1} → statement M
 unfolding as_string
-as-string-spec =
+as_string_spec =
     tie.close
     (tie.spec
     (λ c. search rules)
     (λ c. search rules)
-    (λ c. rw c.before.literal.given.1)
-    (λ c. rw c.before.literal2.given.1))
+    (λ c. rw c.in-Closed.is)
+    (λ c. rw c.in-Refused.is))

@@ -4,12 +4,12 @@ use Rattle.tokens.specs.Tokens.{as_token}
 use Rattle.tokens.proofs.rules.as_token.Statement.{statement}
 use Rattle.tokens.proofs.rules.as_token.Tie as tie
 
-pub as-token-spec : {M : Type 1} → statement M
+pub as_token_spec : {M : Type 1} → statement M
 unfolding as_token
-as-token-spec =
+as_token_spec =
     tie.close
     (tie.spec
     (λ c. search rules)
     (λ c. search rules)
-    (λ c. rw c.before.ran.given.1)
-    (λ c. rw c.before.ran2.given.1))
+    (λ c. rw c.in-To.is)
+    (λ c. rw c.in-Stopped.is))

@@ -8,25 +8,25 @@ use Rattle.tokens.specs.Tokens.{dash_rule}
 use Rattle.tokens.proofs.rules.dash_rule.Statement.{statement}
 use Rattle.tokens.proofs.rules.dash_rule.Tie as tie
 
-abbrev top : tie.After-c → tie.Start
-top c = c.before.before.before.before
+abbrev top : tie.In-Char → tie.Start
+top c = c.before.before.before
 
 -- the character that stands there, and what is seen behind it
-reads : (c : tie.After-c)
+reads : (c : tie.In-Char)
     → let a = (top c).args in
-    folded_from a.text.now a.next ≡ char a.next c.c.given.0.0 (folded_from a.text.now c.c.given.0.1.0)
-reads c = folded_char _ _ _ _ (sym c.before.before.folded-at.ensures ∙ c.c.given.1)
+    folded_from a.text.now a.next ≡ char a.next c.in-Char.c (folded_from a.text.now c.in-Char.behind)
+reads c = folded_char _ _ _ _ (sym c.folded_at.ensures ∙ c.in-Char.is)
 
-pub dash-rule-spec : {M : Type 1} → statement M
+pub dash_rule_spec : {M : Type 1} → statement M
 unfolding dash_rule
-dash-rule-spec =
+dash_rule_spec =
     tie.close
     (tie.spec
     (λ c κs. search rules)
     (λ c. search rules)
     (λ c. search rules)
     (λ c. search rules)
-    (λ c. rw (reads c.before.before, eq-eqb _ _ c.if1.true, folded_place))
-    (λ c. rw (folded_end _ _ (sym c.before.before.folded-at.ensures ∙ c.enum_told.given.1)))
-    (λ c. rw (folded_ill _ _ _ (sym c.before.before.before.folded-at.ensures ∙ c.before.ill.given.1)))
-    (λ c. rw (reads c.before.before, ne_eqb _ _ c.if1.false)))
+    (λ c. rw (reads c.before, eq-eqb _ _ c.if-c-eq62.true, folded_place))
+    (λ c. rw (folded_end _ _ (sym c.folded_at.ensures ∙ c.in-End.is)))
+    (λ c. rw (folded_ill _ _ _ (sym c.folded_at.ensures ∙ c.in-Ill.is)))
+    (λ c. rw (reads c.before, ne_eqb _ _ c.if-c-eq62.false)))

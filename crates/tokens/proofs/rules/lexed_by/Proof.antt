@@ -13,46 +13,46 @@ use Rattle.tokens.proofs.rules.lexed_by.Statement.{statement}
 use Rattle.tokens.proofs.rules.lexed_by.Tie as tie
 
 -- the token by a rule
-abbrev by : tie.After-settled-rule → Rule → Lexed
-by c rule = let a = c.before.before.args in lexed_by rule a.text.now a.offset a.at a.c (folded_from a.text.now a.next)
+abbrev by : tie.After-settled_rule → Rule → Lexed
+by c rule = let a = c.args in lexed_by rule a.text.now a.offset a.at a.c (folded_from a.text.now a.next)
 
-same : (c : tie.After-settled-rule) (rule : Rule) → c.settled-rule.result ≡ rule → by c rule ≡ by c (rule_of c.before.before.args.c)
-same c rule e = ap (by c) (sym e ∙ c.settled-rule.ensures) ∙ settled_same _ _ _ _ _ _
+same : (c : tie.After-settled_rule) (rule : Rule) → c.settled_rule.result ≡ rule → by c rule ≡ by c (rule_of c.args.c)
+same c rule e = ap (by c) (sym e ∙ c.settled_rule.ensures) ∙ settled_same _ _ _ _ _ _
 
-returns : tie.Need-returns
+returns : tie.Need-returns-in-Blanks
 unfolding lexed_by
 returns c =
-    let s : tie.After-settled-rule = c.before.before.before.before in
-    rw (← same s _ c.before.before.enum_told.given.1, ← blanks_class, ← c.before.run-from.ensures) c.as-token.ensures
+    let s : tie.After-settled_rule = c.before.before.before in
+    rw (← same s _ c.in-Blanks.is, ← blanks_class, ← c.run_from.ensures) c.as_token.ensures
 
-returns-5 : tie.Need-returns-5
+returns-5 : tie.Need-returns-in-Quote
 unfolding lexed_by
 returns-5 c =
     let quote = c.before.before.before in
     rw (
-      ← same quote.before.before _ quote.enum-told5.given.1,
+      ← same quote.before _ quote.in-Quote.is,
       folded_place,
-      ← c.before.before.in_map.ensures,
-      ← c.before.expect-string-literal.ensures,
-    ) c.as-string.ensures
+      ← c.in_map-start.ensures,
+      ← c.expect_string_literal.ensures,
+    ) c.as_string.ensures
 
-returns-6 : tie.Need-returns-6
+returns-6 : tie.Need-returns-in-Digits
 unfolding lexed_by
 returns-6 c =
-    let s : tie.After-settled-rule = c.before.before.before.before in
-    rw (← same s _ c.before.before.enum-told6.given.1, ← digits_class, ← c.before.run-from2.ensures) c.as-token2.ensures
+    let s : tie.After-settled_rule = c.before.before.before in
+    rw (← same s _ c.in-Digits.is, ← digits_class, ← c.run_from-in-Digits.ensures) c.as_token-in-Digits.ensures
 
 -- no class takes the character
-returns-9 : tie.Need-returns-9
+returns-9 : tie.Need-returns-in-Classed
 unfolding lexed_by
 returns-9 c =
-    let s : tie.After-settled-rule = c.before.before.before in
-    let classed = c.before.enum-told8.given.1 in
-    rw (← same s _ classed, fails _ (settled_not _ _ (sym s.settled-rule.ensures ∙ classed)), ← c.in-map2.ensures)
+    let s : tie.After-settled_rule = c.before.before in
+    let classed = c.in-Classed.is in
+    rw (← same s _ classed, fails _ (settled_not _ _ (sym s.settled_rule.ensures ∙ classed)), ← c.in_map.ensures)
 
-pub lexed-by-spec : {M : Type 1} → statement M
+pub lexed_by_spec : {M : Type 1} → statement M
 unfolding lexed_by
-lexed-by-spec =
+lexed_by_spec =
     tie.close
     (tie.spec
     (λ c κs. search rules)
@@ -78,11 +78,11 @@ lexed-by-spec =
     (λ c. search rules)
     (λ c κs. search rules)
     returns
-    (λ c. c.slash-rule.ensures ∙ same c.before.before.before _ c.before.enum-told2.given.1)
-    (λ c. c.dash-rule.ensures ∙ same c.before.before.before _ c.before.enum-told3.given.1)
-    (λ c. c.percent-rule.ensures ∙ same c.before.before.before _ c.before.enum-told4.given.1)
+    (λ c. c.slash_rule.ensures ∙ same c.before.before _ c.in-Slash.is)
+    (λ c. c.dash_rule.ensures ∙ same c.before.before _ c.in-Dash.is)
+    (λ c. c.percent_rule.ensures ∙ same c.before.before _ c.in-Percent.is)
     returns-5
     returns-6
-    (λ c. rw (← same c.before.before.before _ c.before.enum-told7.given.1, ← keylike_class) c.word-rule.ensures)
-    (λ c. rw (← same c.before.before.before _ c.before.kind.given.1, folded_place))
+    (λ c. rw (← same c.before.before _ c.in-Word.is, ← keylike_class) c.word_rule.ensures)
+    (λ c. rw (← same c.before _ c.in-Mark.is, folded_place))
     returns-9)

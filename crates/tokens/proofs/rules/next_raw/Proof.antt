@@ -9,27 +9,27 @@ use Rattle.tokens.specs.Tokens.{raw_at, raw_of}
 use Rattle.tokens.proofs.rules.next_raw.Statement.{statement}
 use Rattle.tokens.proofs.rules.next_raw.Tie as tie
 
-abbrev top : tie.After-c → tie.Start
-top c = c.before.before.before.before
+abbrev top : tie.In-Char → tie.Start
+top c = c.before.before.before
 
-stands : (c : tie.After-c) → folded_at (top c).args.text.now (top c).args.at ≡ Char c.c.given.0.0 c.c.given.0.1.0
-stands c = sym c.before.before.folded-at.ensures ∙ c.c.given.1
+stands : (c : tie.In-Char) → folded_at (top c).args.text.now (top c).args.at ≡ Char c.in-Char.c c.in-Char.next
+stands c = sym c.folded_at.ensures ∙ c.in-Char.is
 
-returns-3 : tie.Need-returns-3
+returns-3 : tie.Need-returns-in-Char
 unfolding raw_at raw_of
-returns-3 c = rw (folded_char _ _ _ _ (stands c.before.before.before), ← c.before.lexed-by.ensures) c.spanned-by.ensures
+returns-3 c = rw (folded_char _ _ _ _ (stands c.before.before), ← c.lexed_by.ensures) c.spanned_by.ensures
 
-pub next-raw-spec : {M : Type 1} → statement M
+pub next_raw_spec : {M : Type 1} → statement M
 unfolding raw_at raw_of
-next-raw-spec =
+next_raw_spec =
     tie.close
     (tie.spec
     (λ c κs. search rules)
     (λ c. search rules)
     (λ c. search rules)
     (λ c. search rules)
-    (λ c κs. omega (arith, folded_onward _ _ _ _ (stands c.before)))
+    (λ c κs. omega (arith, folded_onward _ _ _ _ (stands c)))
     (λ c κs. search rules)
-    (λ c. rw (folded_end _ _ (sym c.before.before.folded-at.ensures ∙ c.enum_told.given.1)))
-    (λ c. rw (folded_ill _ _ _ (sym c.before.before.before.folded-at.ensures ∙ c.before.ill.given.1)))
+    (λ c. rw (folded_end _ _ (sym c.folded_at.ensures ∙ c.in-End.is)))
+    (λ c. rw (folded_ill _ _ _ (sym c.folded_at.ensures ∙ c.in-Ill.is)))
     returns-3)

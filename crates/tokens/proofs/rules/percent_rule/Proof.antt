@@ -8,30 +8,30 @@ use Rattle.tokens.specs.Tokens.{percent_rule}
 use Rattle.tokens.proofs.rules.percent_rule.Statement.{statement}
 use Rattle.tokens.proofs.rules.percent_rule.Tie as tie
 
-abbrev top : tie.After-c → tie.Start
-top c = c.before.before.before.before
+abbrev top : tie.In-Char → tie.Start
+top c = c.before.before.before
 
 -- the character that stands there, and what is seen behind it
-reads : (c : tie.After-c)
+reads : (c : tie.In-Char)
     → let a = (top c).args in
-    folded_from a.text.now a.next ≡ char a.next c.c.given.0.0 (folded_from a.text.now c.c.given.0.1.0)
-reads c = folded_char _ _ _ _ (sym c.before.before.folded-at.ensures ∙ c.c.given.1)
+    folded_from a.text.now a.next ≡ char a.next c.in-Char.c (folded_from a.text.now c.in-Char.behind)
+reads c = folded_char _ _ _ _ (sym c.folded_at.ensures ∙ c.in-Char.is)
 
-returns : tie.Need-returns
+returns : tie.Need-returns-then-is_keylike_start
 unfolding percent_rule
 returns c =
     let test = c.before.before.before in
     rw (
-      reads test.before.before,
-      ← test.is-keylike-start.ensures,
-      c.before.before.if1.true,
+      reads test.before,
+      ← test.is_keylike_start.ensures,
+      c.if-is_keylike_start.true,
       ← keylike_class,
-      ← c.before.run_on.ensures,
-    ) c.as-token.ensures
+      ← c.run_on.ensures,
+    ) c.as_token.ensures
 
-pub percent-rule-spec : {M : Type 1} → statement M
+pub percent_rule_spec : {M : Type 1} → statement M
 unfolding percent_rule
-percent-rule-spec =
+percent_rule_spec =
     tie.close
     (tie.spec
     (λ c κs. search rules)
@@ -42,6 +42,6 @@ percent-rule-spec =
     (λ c κs. search rules)
     (λ c κs. search rules)
     returns
-    (λ c. rw (folded_end _ _ (sym c.before.before.folded-at.ensures ∙ c.enum_told.given.1)))
-    (λ c. rw (folded_ill _ _ _ (sym c.before.before.before.folded-at.ensures ∙ c.before.ill.given.1)))
-    (λ c. rw (reads c.before.before.before, ← c.before.is-keylike-start.ensures, c.if1.false)))
+    (λ c. rw (folded_end _ _ (sym c.folded_at.ensures ∙ c.in-End.is)))
+    (λ c. rw (folded_ill _ _ _ (sym c.folded_at.ensures ∙ c.in-Ill.is)))
+    (λ c. rw (reads c.before.before, ← c.is_keylike_start.ensures, c.if-is_keylike_start.false)))

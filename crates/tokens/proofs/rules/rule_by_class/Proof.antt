@@ -4,11 +4,11 @@ use Rattle.tokens.specs.inner.Settled.{settled}
 use Rattle.tokens.proofs.rules.rule_by_class.Statement.{statement}
 use Rattle.tokens.proofs.rules.rule_by_class.Tie as tie
 
-pub rule-by-class-spec : {M : Type 1} → statement M
+pub rule_by_class_spec : {M : Type 1} → statement M
 unfolding settled
-rule-by-class-spec =
+rule_by_class_spec =
     tie.close
     (tie.spec
     (λ c κs. search rules)
-    (λ c. rw (← c.before.is-keylike-start.ensures, c.if1.true))
-    (λ c. rw (← c.before.is-keylike-start.ensures, c.if1.false)))
+    (λ c. rw (← c.is_keylike_start.ensures, c.if-is_keylike_start.true))
+    (λ c. rw (← c.is_keylike_start.ensures, c.if-is_keylike_start.false)))

@@ -2,7 +2,7 @@
 use Prim.Native.Nat.{ℕ, ◌≤◌}
 use mathlib.Core.Path.{◌≡◌, sym, refl, ◌∙◌}
 use mathlib.Core.List.{[]}
-use borrow.Author.Rules.{rules}
+use borrow.Author.Rules.{rules as usual}
 use Rattle.terms.specs.Terms.{said, within}
 use Rattle.terms.proofs.TestLaws.{within_true}
 use Rattle.terms.proofs.TableLaws.{in_match, word, is_key, is_keys, up, down}
@@ -17,36 +17,36 @@ small : (c : ℕ) → (0x61 ≤ c) × (c ≤ 0x7A) → rule_of c ≡ Word
 unfolding rule_of rules said within word is_key is_keys up down
 small c l = in_match [] 0x61 0x7A c tt l.0 l.1 rules Classed _ refl
 
-returns : tie.Need-returns
+returns : tie.Need-returns-then-within
 unfolding settled
 returns c =
-    let x : ℕ = c.before.before.args.c in
-    rw (small x (within_true 0x61 0x7A x (sym c.before.within.ensures ∙ c.if1.taken)))
+    let x : ℕ = c.args.c in
+    rw (small x (within_true 0x61 0x7A x (sym c.within.ensures ∙ c.if-within.true)))
 
-pub settled-rule-spec : {M : Type 1} → statement M
+pub settled_rule_spec : {M : Type 1} → statement M
 unfolding settled
-settled-rule-spec =
+settled_rule_spec =
     tie.close
     (tie.spec
-    (λ c κs. search rules)
+    (λ c κs. search usual)
     returns
-    (λ c κs. search rules)
-    (λ c. search rules)
-    (λ c. search rules)
-    (λ c. search rules)
-    (λ c. search rules)
-    (λ c. search rules)
-    (λ c. search rules)
-    (λ c. search rules)
-    (λ c. search rules)
-    (λ c. search rules)
-    (λ c κs. search rules)
-    (λ c. rw (← c.before.before.rule-of.ensures, c.enum_told.given.1))
-    (λ c. rw (← c.before.before.rule-of.ensures, c.enum-told2.given.1))
-    (λ c. rw (← c.before.before.rule-of.ensures, c.enum-told3.given.1))
-    (λ c. rw (← c.before.before.rule-of.ensures, c.enum-told4.given.1))
-    (λ c. rw (← c.before.before.rule-of.ensures, c.enum-told5.given.1))
-    (λ c. rw (← c.before.before.rule-of.ensures, c.enum-told6.given.1))
-    (λ c. rw (← c.before.before.rule-of.ensures, c.enum-told7.given.1))
-    (λ c. rw (← c.before.before.before.rule-of.ensures, c.before.kind.given.1))
-    (λ c. rw (← c.before.before.before.rule-of.ensures, c.before.enum-told8.given.1) c.rule-by-class.ensures))
+    (λ c κs. search usual)
+    (λ c. search usual)
+    (λ c. search usual)
+    (λ c. search usual)
+    (λ c. search usual)
+    (λ c. search usual)
+    (λ c. search usual)
+    (λ c. search usual)
+    (λ c. search usual)
+    (λ c. search usual)
+    (λ c κs. search usual)
+    (λ c. rw (← c.rule_of.ensures, c.in-Blanks.is))
+    (λ c. rw (← c.rule_of.ensures, c.in-Slash.is))
+    (λ c. rw (← c.rule_of.ensures, c.in-Dash.is))
+    (λ c. rw (← c.rule_of.ensures, c.in-Percent.is))
+    (λ c. rw (← c.rule_of.ensures, c.in-Quote.is))
+    (λ c. rw (← c.rule_of.ensures, c.in-Digits.is))
+    (λ c. rw (← c.rule_of.ensures, c.in-Word.is))
+    (λ c. rw (← c.rule_of.ensures, c.in-Mark.is))
+    (λ c. rw (← c.rule_of.ensures, c.in-Classed.is) c.rule_by_class.ensures))

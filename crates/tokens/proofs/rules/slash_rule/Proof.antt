@@ -8,36 +8,36 @@ use Rattle.tokens.specs.Tokens.{slash_rule}
 use Rattle.tokens.proofs.rules.slash_rule.Statement.{statement}
 use Rattle.tokens.proofs.rules.slash_rule.Tie as tie
 
-abbrev top : tie.After-c → tie.Start
-top c = c.before.before.before.before
+abbrev top : tie.In-Char → tie.Start
+top c = c.before.before.before
 
 -- the character that stands there, and what is seen behind it
-reads : (c : tie.After-c)
+reads : (c : tie.In-Char)
     → let a = (top c).args in
-    folded_from a.text.now a.next ≡ char a.next c.c.given.0.0 (folded_from a.text.now c.c.given.0.1.0)
-reads c = folded_char _ _ _ _ (sym c.before.before.folded-at.ensures ∙ c.c.given.1)
+    folded_from a.text.now a.next ≡ char a.next c.in-Char.c (folded_from a.text.now c.in-Char.behind)
+reads c = folded_char _ _ _ _ (sym c.folded_at.ensures ∙ c.in-Char.is)
 
-returns : tie.Need-returns
+returns : tie.Need-returns-then-c-eq47
 unfolding slash_rule
 returns c =
     let slash = c.before.before in
-    rw (reads slash.before.before, eq-eqb _ _ slash.if1.true, ← c.before.line-comment.ensures) c.as-token.ensures
+    rw (reads slash.before, eq-eqb _ _ slash.if-c-eq47.true, ← c.line_comment.ensures) c.as_token.ensures
 
-returns-2 : tie.Need-returns-2
+returns-2 : tie.Need-returns-then-c-eq42
 unfolding slash_rule
 returns-2 c =
     let star = c.before.before.before in
     rw (
-      reads star.before.before.before,
-      ne_eqb _ _ star.before.if1.false,
-      eq-eqb _ _ star.if2.true,
-      ← c.before.before.in_map.ensures,
-      ← c.before.block-comment.ensures,
-    ) c.as-token2.ensures
+      reads star.before.before,
+      ne_eqb _ _ star.if-c-eq47.false,
+      eq-eqb _ _ star.if-c-eq42.true,
+      ← c.in_map-start.ensures,
+      ← c.block_comment.ensures,
+    ) c.as_token-then-c-eq42.ensures
 
-pub slash-rule-spec : {M : Type 1} → statement M
+pub slash_rule_spec : {M : Type 1} → statement M
 unfolding slash_rule
-slash-rule-spec =
+slash_rule_spec =
     tie.close
     (tie.spec
     (λ c κs. search rules)
@@ -51,6 +51,6 @@ slash-rule-spec =
     (λ c κs. search rules)
     (λ c κs. search rules)
     returns-2
-    (λ c. rw (folded_end _ _ (sym c.before.before.folded-at.ensures ∙ c.enum_told.given.1)))
-    (λ c. rw (folded_ill _ _ _ (sym c.before.before.before.folded-at.ensures ∙ c.before.ill.given.1)))
-    (λ c. rw (reads c.before.before.before, ne_eqb _ _ c.before.if1.false, ne_eqb _ _ c.if2.false)))
+    (λ c. rw (folded_end _ _ (sym c.folded_at.ensures ∙ c.in-End.is)))
+    (λ c. rw (folded_ill _ _ _ (sym c.folded_at.ensures ∙ c.in-Ill.is)))
+    (λ c. rw (reads c.before.before, ne_eqb _ _ c.if-c-eq47.false, ne_eqb _ _ c.if-c-eq42.false)))

@@ -4,14 +4,14 @@ use Rattle.tokens.specs.Tokens.{spanned}
 use Rattle.tokens.proofs.rules.spanned_by.Statement.{statement}
 use Rattle.tokens.proofs.rules.spanned_by.Tie as tie
 
-pub spanned-by-spec : {M : Type 1} → statement M
+pub spanned_by_spec : {M : Type 1} → statement M
 unfolding spanned
-spanned-by-spec =
+spanned_by_spec =
     tie.close
     (tie.spec
     (λ c. search rules)
     (λ c κs. search rules)
     (λ c κs. search rules)
     (λ c. search rules)
-    (λ c. rw (c.before.before.before.lexed.given.1, ← c.before.in_map.ensures, ← c.in-map2.ensures))
-    (λ c. rw c.before.lexed2.given.1))
+    (λ c. rw (c.in-As.is, ← c.in_map-start.ensures, ← c.in_map-behind.ensures))
+    (λ c. rw c.in-Not.is))

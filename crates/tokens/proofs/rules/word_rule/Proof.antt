@@ -13,34 +13,34 @@ use Rattle.tokens.proofs.rules.word_rule.Statement.{statement}
 use Rattle.tokens.proofs.rules.word_rule.Tie as tie
 
 -- where the word's end is known
-abbrev top : tie.After-end → tie.Start
-top c = c.before.before.before.before
+abbrev top : tie.In-To → tie.Start
+top c = c.before.before.before
 
-abbrev end : tie.After-end → Place
-end c = c.end.given.0.0
+abbrev end : tie.In-To → Place
+end c = c.in-To.end
 
-ends : (c : tie.After-end) → ((top c).args.at.0 ≤ (end c).0) × ((end c).0 ≤ length (top c).args.text.now)
-ends c = omega (arith, run_to _ _ _ (top c).requires.1 _ (sym c.before.before.run-from.ensures ∙ c.end.given.1), (top c).requires.0)
+ends : (c : tie.In-To) → ((top c).args.at.0 ≤ (end c).0) × ((end c).0 ≤ length (top c).args.text.now)
+ends c = omega (arith, run_to _ _ _ (top c).requires.1 _ (sym c.run_from.ensures ∙ c.in-To.is), (top c).requires.0)
 
-returns : tie.Need-returns
+returns : tie.Need-returns-in-To
 unfolding as_word
 returns c =
-    let e : tie.After-end = c.before.before.before.before.before in
-    rw (← e.before.before.run-from.ensures, e.end.given.1) (ap (λ (k : Token). As k (end e)) c.keyword.ensures)
+    let e : tie.In-To = c.before.before.before.before in
+    rw (← e.run_from.ensures, e.in-To.is) (ap (λ (k : Token). As k (end e)) c.keyword.ensures)
 
-pub word-rule-spec : {M : Type 1} → statement M
+pub word_rule_spec : {M : Type 1} → statement M
 unfolding as_word
-word-rule-spec =
+word_rule_spec =
     tie.close
     (tie.spec
     (λ c κs. search rules)
     (λ c. search rules)
     (λ c. search rules)
     (λ c. search rules)
-    (λ c. omega (arith, ends c.before.before.before))
-    (λ c. omega (arith, ends c.before.before.before))
-    (λ c. omega (arith, ends c.before.before.before))
+    (λ c. omega (arith, ends c.before.before))
+    (λ c. omega (arith, ends c.before.before))
+    (λ c. omega (arith, ends c.before.before))
     (λ c κs. search rules)
     (λ c. search rules)
     returns
-    (λ c. rw (← c.before.before.before.run-from.ensures, c.before.refusal.given.1)))
+    (λ c. rw (← c.run_from.ensures, c.in-Stopped.is)))
