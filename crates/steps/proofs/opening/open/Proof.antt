@@ -4,21 +4,21 @@ use borrow.Author.Rules.{rules}
 use Rattle.steps.proofs.opening.open.Statement.{statement}
 use Rattle.steps.proofs.opening.open.Tie as tie
 
-returns : tie.Need-returns
+returns : tie.Need-returns-in-Refused
 unfolding opened opened_by first_of
-returns c = rw (← c.before.before.before.check-text.ensures, c.before.refusal.given.1)
+returns c = rw (← c.check_text.ensures, c.in-Refused.is)
 
-returns-2 : tie.Need-returns-2
+returns-2 : tie.Need-returns-in-Refused-detect_invalid_input
 unfolding opened opened_by first_of
-returns-2 c = rw (← c.before.before.before.before.before.before.check-text.ensures, c.before.before.before.before.enum_told.given.1, ← c.before.before.before.detect-invalid-input.ensures, c.before.refusal2.given.1)
+returns-2 c = rw (← c.check_text.ensures, c.in_default.is, ← c.detect_invalid_input.ensures, c.in-Refused-detect_invalid_input.is)
 
-returns-3 : tie.Need-returns-3
+returns-3 : tie.Need-returns-then-is_marked
 unfolding opened opened_by first_of
-returns-3 c = rw (← c.before.before.before.before.before.before.before.check-text.ensures, c.before.before.before.before.before.enum_told.given.1, ← c.before.before.before.before.detect-invalid-input.ensures, c.before.before.enum-told2.given.1, ← c.before.is-marked.ensures, c.if1.true)
+returns-3 c = rw (← c.check_text.ensures, c.in_default.is, ← c.detect_invalid_input.ensures, c.in_default-detect_invalid_input.is, ← c.is_marked.ensures, c.if-is_marked.true)
 
-returns-4 : tie.Need-returns-4
+returns-4 : tie.Need-returns
 unfolding opened opened_by first_of
-returns-4 c = rw (← c.before.before.before.before.before.before.before.check-text.ensures, c.before.before.before.before.before.enum_told.given.1, ← c.before.before.before.before.detect-invalid-input.ensures, c.before.before.enum-told2.given.1, ← c.before.is-marked.ensures, c.if1.false)
+returns-4 c = rw (← c.check_text.ensures, c.in_default.is, ← c.detect_invalid_input.ensures, c.in_default-detect_invalid_input.is, ← c.is_marked.ensures, c.if-is_marked.false)
 
 pub open_spec : {M : Type 1} → statement M
 open_spec =

@@ -5,20 +5,20 @@ use borrow.Author.Rules.{rules}
 use Rattle.steps.proofs.stepping.check_step.Statement.{statement}
 use Rattle.steps.proofs.stepping.check_step.Tie as tie
 
-returns : tie.Need-returns
+returns : tie.Need-returns-in-Refused
 unfolding step_verdict cursor_verdict first_of
-returns c = rw (← c.before.before.before.check-text.ensures, c.before.refusal.given.1)
+returns c = rw (← c.check_text.ensures, c.in-Refused.is)
 
-returns-2 : tie.Need-returns-2
+returns-2 : tie.Need-returns-then-at-text
 unfolding step_verdict cursor_verdict first_of
-returns-2 c = rw (← c.before.before.before.before.check-text.ensures, c.before.before.enum_told.given.1, le-leb _ _ c.if1.true)
+returns-2 c = rw (← c.check_text.ensures, c.in_default.is, le-leb _ _ c.if-at-text.true)
 
-returns-3 : tie.Need-returns-3
+returns-3 : tie.Need-returns
 unfolding step_verdict cursor_verdict first_of
-returns-3 c = rw (← c.before.before.before.before.check-text.ensures, c.before.before.enum_told.given.1, lt-leb _ _ c.if1.false)
+returns-3 c = rw (← c.check_text.ensures, c.in_default.is, lt-leb _ _ c.if-at-text.false)
 
-pub check-step-spec : {M : Type 1} → statement M
-check-step-spec =
+pub check_step_spec : {M : Type 1} → statement M
+check_step_spec =
     tie.close
     (tie.spec
     (λ c κs. search rules)

@@ -7,5 +7,5 @@ returns : tie.Need-returns
 unfolding is_blank
 returns c = rw (← c.kind.ensures)
 
-pub is-blank-spec : {M : Type 1} → statement M
-is-blank-spec = tie.close (tie.spec (λ c κs. search rules) returns)
+pub is_blank_spec : {M : Type 1} → statement M
+is_blank_spec = tie.close (tie.spec (λ c κs. search rules) returns)

@@ -3,16 +3,16 @@ use borrow.Author.Rules.{rules}
 use Rattle.steps.proofs.stepping.next_at.Statement.{statement}
 use Rattle.steps.proofs.stepping.next_at.Tie as tie
 
-returns : tie.Need-returns
+returns : tie.Need-returns-in-Refused
 unfolding next_at moved_by
-returns c = rw (← c.before.before.before.check-step.ensures, c.before.refusal.given.1)
+returns c = rw (← c.check_step.ensures, c.in-Refused.is)
 
-returns-2 : tie.Need-returns-2
+returns-2 : tie.Need-returns
 unfolding next_at moved_by
-returns-2 c = rw (← c.before.before.before.check-step.ensures, c.before.enum_told.given.1) c.next-step.ensures
+returns-2 c = rw (← c.check_step.ensures, c.in_default.is) c.next_step.ensures
 
-pub next-at-spec : {M : Type 1} → statement M
-next-at-spec =
+pub next_at_spec : {M : Type 1} → statement M
+next_at_spec =
     tie.close
     (tie.spec
     (λ c κs. search rules)

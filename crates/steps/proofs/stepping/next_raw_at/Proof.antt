@@ -3,16 +3,16 @@ use borrow.Author.Rules.{rules}
 use Rattle.steps.proofs.stepping.next_raw_at.Statement.{statement}
 use Rattle.steps.proofs.stepping.next_raw_at.Tie as tie
 
-returns : tie.Need-returns
+returns : tie.Need-returns-in-Refused
 unfolding next_raw_at moved_by
-returns c = rw (← c.before.before.before.check-step.ensures, c.before.refusal.given.1)
+returns c = rw (← c.check_step.ensures, c.in-Refused.is)
 
-returns-2 : tie.Need-returns-2
+returns-2 : tie.Need-returns
 unfolding next_raw_at moved_by
-returns-2 c = rw (← c.before.before.before.before.check-step.ensures, c.before.before.enum_told.given.1, ← c.before.next_raw.ensures) c.raw-step.ensures
+returns-2 c = rw (← c.check_step.ensures, c.in_default.is, ← c.next_raw.ensures) c.raw_step.ensures
 
-pub next-raw-at-spec : {M : Type 1} → statement M
-next-raw-at-spec =
+pub next_raw_at_spec : {M : Type 1} → statement M
+next_raw_at_spec =
     tie.close
     (tie.spec
     (λ c κs. search rules)

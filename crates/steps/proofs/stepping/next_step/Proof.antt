@@ -2,7 +2,6 @@ use Prim.Native.Nat.{◌-◌}
 use mathlib.Core.Path.{◌≡◌, refl, sym, ◌∙◌}
 use native.Mathlib.Omega.{arith}
 use lib.ListN.{length}
-use borrow.Author.Tests.{not-true, not-false}
 use Rattle.steps.specs.Stream.{tokens_from}
 use Rattle.steps.specs.Steps.{next_step}
 use Rattle.tokens.proofs.TokenLaws.{raw_goes}
@@ -11,32 +10,32 @@ use borrow.Author.Rules.{rules}
 use Rattle.steps.proofs.stepping.next_step.Statement.{statement}
 use Rattle.steps.proofs.stepping.next_step.Tie as tie
 
-abbrev invariant-loop : tie.invariant-loop
+abbrev invariant-loop : tie.invariant-loop-kind
 invariant-loop text offset from at₀ at = next_step from (tokens_from text offset from) ≡ next_step from (tokens_from text offset at)
 
-abbrev decreases-loop : tie.decreases-loop
+abbrev decreases-loop : tie.decreases-loop-kind
 decreases-loop text offset from at₀ at = length text - at.0
 
-loop-holds : tie.Need-loop-init invariant-loop decreases-loop
+loop-holds : tie.Need-loop-kind-init invariant-loop decreases-loop
 loop-holds c = refl
 
-returns : tie.Need-returns invariant-loop decreases-loop
-returns c = sym (c.before.before.before.before.before.before.loop.invariant ∙ next_token _ _ _ _ _ _ _ (sym c.before.before.before.before.before.next_raw.ensures ∙ c.before.before.before.kind.given.1) (sym c.before.is-blank.ensures ∙ not-true _ c.if1.true))
+returns : tie.Need-returns-then-not-is_blank invariant-loop decreases-loop
+returns c = sym (c.loop-kind.invariant ∙ next_token _ _ _ _ _ _ _ (sym c.next_raw.ensures ∙ c.in-Token.is) (sym c.is_blank.ensures ∙ c.if-not-is_blank.true))
 
-loop-less : tie.Need-loop-smaller invariant-loop decreases-loop
-loop-less c = let g = raw_goes _ _ _ _ _ _ (sym c.before.before.before.before.before.next_raw.ensures ∙ c.before.before.before.kind.given.1) in omega (arith, g.beyond, g.inside)
+loop-less : tie.Need-loop-kind-smaller invariant-loop decreases-loop
+loop-less c = let g = raw_goes _ _ _ _ _ _ (sym c.next_raw.ensures ∙ c.in-Token.is) in omega (arith, g.beyond, g.inside)
 
-loop-again : tie.Need-loop-preserved invariant-loop decreases-loop
-loop-again c = c.before.before.before.before.before.before.loop.invariant ∙ next_blank _ _ _ _ _ _ _ (sym c.before.before.before.before.before.next_raw.ensures ∙ c.before.before.before.kind.given.1) (sym c.before.is-blank.ensures ∙ not-false _ c.if1.false)
+loop-again : tie.Need-loop-kind-preserved invariant-loop decreases-loop
+loop-again c = c.loop-kind.invariant ∙ next_blank _ _ _ _ _ _ _ (sym c.next_raw.ensures ∙ c.in-Token.is) (sym c.is_blank.ensures ∙ c.if-not-is_blank.false)
 
-returns-2 : tie.Need-returns-2 invariant-loop decreases-loop
-returns-2 c = sym (c.before.before.before.loop.invariant ∙ next_end _ _ _ _ (sym c.before.before.next_raw.ensures ∙ c.enum_told.given.1))
+returns-2 : tie.Need-returns-in-End invariant-loop decreases-loop
+returns-2 c = sym (c.loop-kind.invariant ∙ next_end _ _ _ _ (sym c.next_raw.ensures ∙ c.in-End.is))
 
-returns-3 : tie.Need-returns-3 invariant-loop decreases-loop
-returns-3 c = sym (c.before.before.before.before.loop.invariant ∙ next_refused _ _ _ _ _ (sym c.before.before.before.next_raw.ensures ∙ c.before.refusal.given.1))
+returns-3 : tie.Need-returns-in-Refused invariant-loop decreases-loop
+returns-3 c = sym (c.loop-kind.invariant ∙ next_refused _ _ _ _ _ (sym c.next_raw.ensures ∙ c.in-Refused.is))
 
-pub next-step-spec : {M : Type 1} → statement M
-next-step-spec =
+pub next_step_spec : {M : Type 1} → statement M
+next_step_spec =
     tie.close
     (tie.spec
     invariant-loop

@@ -3,18 +3,18 @@ use borrow.Author.Rules.{rules}
 use Rattle.steps.proofs.stepping.raw_step.Statement.{statement}
 use Rattle.steps.proofs.stepping.raw_step.Tie as tie
 
-returns : tie.Need-returns
+returns : tie.Need-returns-in-Token
 unfolding raw_step
-returns c = rw c.before.raw.given.1
+returns c = rw c.in-Token.is
 
-returns-2 : tie.Need-returns-2
+returns-2 : tie.Need-returns-in-End
 unfolding raw_step
-returns-2 c = rw c.enum_told.given.1
+returns-2 c = rw c.in-End.is
 
-returns-3 : tie.Need-returns-3
+returns-3 : tie.Need-returns-in-Refused
 unfolding raw_step
-returns-3 c = rw c.before.raw2.given.1
+returns-3 c = rw c.in-Refused.is
 
-pub raw-step-spec : {M : Type 1} → statement M
-raw-step-spec =
+pub raw_step_spec : {M : Type 1} → statement M
+raw_step_spec =
     tie.close (tie.spec (λ c. search rules) (λ c. search rules) (λ c. search rules) returns returns-2 returns-3)
