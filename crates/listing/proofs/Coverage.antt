@@ -10,7 +10,7 @@ use Rattle.terms.specs.Terms.{if◌then◌else◌}
 use Rattle.answers.specs.declared.Place.{Place}
 use Rattle.answers.specs.declared.Span.{Span}
 use Rattle.answers.specs.Places.{place}
-use Rattle.answers.proofs.CapsLaws.{in_map}
+use Rattle.answers.proofs.CapsLaws.{in_map_lem}
 use Rattle.kinds.specs.declared.Token.{Token}
 use Rattle.tokens.specs.declared.Raw.{Raw}
 use Rattle.tokens.specs.Tokens.{raw_at}
@@ -64,8 +64,8 @@ module _ (s : List ℕ) (o : ℕ) where
       go (Raw.Token kind span n) e ih =
           let g = raw_goes s o p kind span n e in
           let b = behind (record { kind = kind; span = span } ∷ []) (rows_of Listing.Raw (tokens_from s o n)) rs (sym (ap (rows_of Listing.Raw) (tokens_token s o p kind span n e)) ∙ r) in
-          let from : span.start.0 ≡ o + p.0 = ap (λ (x : Span). x.start.0) g.spans ∙ in_map o p (omega (arith, w.fits.mapped, w.within)) in
-          let last : span.end.0 ≡ o + n.0 = ap (λ (x : Span). x.end.0) g.spans ∙ in_map o n (omega (arith, w.fits.mapped, g.inside)) in
+          let from : span.start.0 ≡ o + p.0 = ap (λ (x : Span). x.start.0) g.spans ∙ in_map_lem o p (omega (arith, w.fits.mapped, w.within)) in
+          let last : span.end.0 ≡ o + n.0 = ap (λ (x : Span). x.end.0) g.spans ∙ in_map_lem o n (omega (arith, w.fits.mapped, g.inside)) in
           subst (λ (qs : List Row). covers (o + p.0) (o + length s) qs ≡ true) b.2
           (cover_more (o + p.0) (o + n.0) (o + length s) (record { kind = kind; span = span }) b.0 from last (omega (arith, g.beyond))
           (ih n (omega (arith, g.beyond, g.inside)) (onward p w kind span n e) b.0 b.1))

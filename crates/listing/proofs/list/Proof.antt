@@ -5,23 +5,23 @@ use borrow.Author.Rules.{rules}
 use Rattle.listing.proofs.list.Statement.{statement}
 use Rattle.listing.proofs.list.Tie as tie
 
-list-small-requires : tie.Need-list-small-requires
-list-small-requires c κs = let w = opened_in _ _ _ (sym c.before.before.before.before.before.«open».ensures ∙ c.before.before.before.from.given.1) in (w.within, w.fits.short)
+list-small-requires : tie.Need-list_small-requires
+list-small-requires c κs = let w = opened_in _ _ _ (sym c.open.ensures ∙ c.in-At.is) in (w.within, w.fits.short)
 
-returns : tie.Need-returns
-returns c = c.before.before.list-small.ensures ∙ sym (listed_at _ _ _ _ _ (sym c.before.before.before.before.before.before.before.before.«open».ensures ∙ c.before.before.before.before.before.before.from.given.1))
+returns : tie.Need-returns-then-text-le-SMALL
+returns c = c.list_small.ensures ∙ sym (listed_at _ _ _ _ _ (sym c.open.ensures ∙ c.in-At.is))
 
-list-large-requires : tie.Need-list-large-requires
-list-large-requires c κs = let w = opened_in _ _ _ (sym c.before.before.before.before.before.«open».ensures ∙ c.before.before.before.from.given.1) in (w.within, w.fits.short)
+list-large-requires : tie.Need-list_large-requires
+list-large-requires c κs = let w = opened_in _ _ _ (sym c.open.ensures ∙ c.in-At.is) in (w.within, w.fits.short)
 
-returns-2 : tie.Need-returns-2
-returns-2 c = c.before.before.list-large.ensures ∙ sym (listed_at _ _ _ _ _ (sym c.before.before.before.before.before.before.before.before.«open».ensures ∙ c.before.before.before.before.before.before.from.given.1))
+returns-2 : tie.Need-returns-else-text-le-SMALL
+returns-2 c = c.list_large.ensures ∙ sym (listed_at _ _ _ _ _ (sym c.open.ensures ∙ c.in-At.is))
 
-returns-3 : tie.Need-returns-3
-returns-3 c = sym (listed_refused _ _ _ _ _ (sym c.before.before.before.«open».ensures ∙ c.before.refusal.given.1))
+returns-3 : tie.Need-returns-in-Refused
+returns-3 c = sym (listed_refused _ _ _ _ _ (sym c.open.ensures ∙ c.in-Refused.is))
 
-pub list-spec : {M : Type 1} → statement M
-list-spec =
+pub list_spec : {M : Type 1} → statement M
+list_spec =
     tie.close
     (tie.spec
     (λ c κs. search rules)

@@ -6,13 +6,13 @@ use Rattle.listing.proofs.list_large.Statement.{statement}
 use Rattle.listing.proofs.list_large.Tie as tie
 
 deliver-requires : tie.Need-deliver-requires
-deliver-requires c κs = deliverable _ _ _ _ _ c.before.before.before.rows-from.ensures (λ n e h. omega (arith, h))
+deliver-requires c κs = deliverable _ _ _ _ _ c.rows_from-counted.ensures (λ n e h. omega (arith, h))
 
 returns : tie.Need-returns
-returns c = c.before.before.deliver.ensures ∙ staged_tabled _ _ _ _ _ c.before.before.before.before.before.before.rows-from.ensures (λ n e h. omega (arith, h)) _
+returns c = c.deliver.ensures ∙ staged_tabled _ _ _ _ _ c.rows_from-counted.ensures (λ n e h. omega (arith, h)) _
 
-pub list-large-spec : {M : Type 1} → statement M
-list-large-spec =
+pub list_large_spec : {M : Type 1} → statement M
+list_large_spec =
     tie.close
     (tie.spec
     (λ c. search rules)

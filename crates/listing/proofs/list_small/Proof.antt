@@ -6,13 +6,13 @@ use Rattle.listing.proofs.list_small.Statement.{statement}
 use Rattle.listing.proofs.list_small.Tie as tie
 
 deliver-requires : tie.Need-deliver-requires
-deliver-requires c κs = deliverable _ _ _ _ _ c.before.before.before.before.before.rows-from.ensures (λ n e h. omega (arith, fits_few _ (sym c.before.before.before.fits2.ensures ∙ c.before.before.if1.true) n e))
+deliver-requires c κs = deliverable _ _ _ _ _ c.rows_from-counted.ensures (λ n e h. omega (arith, fits_few _ (sym c.fits.ensures ∙ c.if-fits.true) n e))
 
-returns : tie.Need-returns
-returns c = c.before.before.deliver.ensures ∙ staged_tabled _ _ _ _ _ c.before.before.before.before.before.before.before.before.rows-from.ensures (λ n e h. omega (arith, fits_few _ (sym c.before.before.before.before.before.before.fits2.ensures ∙ c.before.before.before.before.before.if1.true) n e)) _
+returns : tie.Need-returns-then-fits
+returns c = c.deliver.ensures ∙ staged_tabled _ _ _ _ _ c.rows_from-counted.ensures (λ n e h. omega (arith, fits_few _ (sym c.fits.ensures ∙ c.if-fits.true) n e)) _
 
-pub list-small-spec : {M : Type 1} → statement M
-list-small-spec =
+pub list_small_spec : {M : Type 1} → statement M
+list_small_spec =
     tie.close
     (tie.spec
     (λ c. search rules)

@@ -5,19 +5,19 @@ use borrow.Author.Rules.{rules}
 use Rattle.wants.proofs.check_wanted.Statement.{statement}
 use Rattle.wants.proofs.check_wanted.Tie as tie
 
-returns : tie.Need-returns
+returns : tie.Need-returns-in-Refused
 unfolding kind_verdict first_of
-returns c = rw (← c.before.before.before.check-step.ensures, c.before.refusal.given.1)
+returns c = rw (← c.check_step.ensures, c.in-Refused.is)
 
-returns-2 : tie.Need-returns-2
+returns-2 : tie.Need-returns-then-wanted-le66
 unfolding kind_verdict first_of
-returns-2 c = rw (← c.before.before.before.check-step.ensures, c.before.enum_told.given.1, le-leb _ _ c.if1.true)
+returns-2 c = rw (← c.check_step.ensures, c.in_default.is, le-leb _ _ c.if-wanted-le66.true)
 
-returns-3 : tie.Need-returns-3
+returns-3 : tie.Need-returns
 unfolding kind_verdict first_of
-returns-3 c = rw (← c.before.before.before.check-step.ensures, c.before.enum_told.given.1, lt-leb _ _ c.if1.false)
+returns-3 c = rw (← c.check_step.ensures, c.in_default.is, lt-leb _ _ c.if-wanted-le66.false)
 
-pub check-wanted-spec : {M : Type 1} → statement M
-check-wanted-spec =
+pub check_wanted_spec : {M : Type 1} → statement M
+check_wanted_spec =
     tie.close
     (tie.spec (λ c κs. search rules) (λ c. search rules) returns (λ c. search rules) returns-2 returns-3)

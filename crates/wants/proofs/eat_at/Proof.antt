@@ -5,16 +5,16 @@ use borrow.Author.Rules.{rules}
 use Rattle.wants.proofs.eat_at.Statement.{statement}
 use Rattle.wants.proofs.eat_at.Tie as tie
 
-returns : tie.Need-returns
+returns : tie.Need-returns-in-Refused
 unfolding eat_at
-returns c = sym (moved_refused _ _ _ _ (sym c.before.before.before.check-wanted.ensures ∙ c.before.refusal.given.1))
+returns c = sym (moved_refused _ _ _ _ (sym c.check_wanted.ensures ∙ c.in-Refused.is))
 
-returns-2 : tie.Need-returns-2
+returns-2 : tie.Need-returns
 unfolding eat_at
-returns-2 c = rw (← c.before.before.next-step.ensures) c.eat-step.ensures ∙ sym (moved_on _ _ _ (sym c.before.before.before.before.before.check-wanted.ensures ∙ c.before.before.before.enum_told.given.1))
+returns-2 c = rw (← c.next_step-found.ensures) c.eat_step.ensures ∙ sym (moved_on _ _ _ (sym c.check_wanted.ensures ∙ c.in_default.is))
 
-pub eat-at-spec : {M : Type 1} → statement M
-eat-at-spec =
+pub eat_at_spec : {M : Type 1} → statement M
+eat_at_spec =
     tie.close
     (tie.spec
     (λ c κs. search rules)

@@ -8,22 +8,22 @@ use borrow.Author.Rules.{rules}
 use Rattle.wants.proofs.expect_at.Statement.{statement}
 use Rattle.wants.proofs.expect_at.Tie as tie
 
-returns : tie.Need-returns
+returns : tie.Need-returns-in-Refused
 unfolding expect_at
-returns c = sym (moved_refused _ _ _ _ (sym c.before.before.before.check-wanted.ensures ∙ c.before.refusal.given.1))
+returns c = sym (moved_refused _ _ _ _ (sym c.check_wanted.ensures ∙ c.in-Refused.is))
 
-cast-t13 : tie.Need-overflow-cast-t13
-cast-t13 c = omega (arith, (step_in _ _ _ (first_both _ _ (sym c.before.before.check-wanted.ensures ∙ c.enum_told.given.1)).0).fits.short)
+cast-t13 : tie.Need-overflow_cast-text
+cast-t13 c = omega (arith, (step_in _ _ _ (first_both _ _ (sym c.check_wanted.ensures ∙ c.in_default.is)).0).fits.short)
 
-expect-step-requires : tie.Need-expect-step-requires
-expect-step-requires c κs = wanted_in _ (first_both _ _ (sym c.before.before.before.before.before.check-wanted.ensures ∙ c.before.before.before.enum_told.given.1)).1
+expect-step-requires : tie.Need-expect_step-requires
+expect-step-requires c κs = wanted_in _ (first_both _ _ (sym c.check_wanted.ensures ∙ c.in_default.is)).1
 
-returns-2 : tie.Need-returns-2
+returns-2 : tie.Need-returns
 unfolding expect_at
-returns-2 c = rw (← c.before.before.before.in_map.ensures, ← c.before.before.next-step.ensures) c.expect-step.ensures ∙ sym (moved_on _ _ _ (sym c.before.before.before.before.before.before.check-wanted.ensures ∙ c.before.before.before.before.enum_told.given.1))
+returns-2 c = rw (← c.in_map-end.ensures, ← c.next_step-found.ensures) c.expect_step.ensures ∙ sym (moved_on _ _ _ (sym c.check_wanted.ensures ∙ c.in_default.is))
 
-pub expect-at-spec : {M : Type 1} → statement M
-expect-at-spec =
+pub expect_at_spec : {M : Type 1} → statement M
+expect_at_spec =
     tie.close
     (tie.spec
     (λ c κs. search rules)

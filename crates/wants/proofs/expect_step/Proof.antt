@@ -4,28 +4,28 @@ use borrow.Author.Rules.{rules}
 use Rattle.wants.proofs.expect_step.Statement.{statement}
 use Rattle.wants.proofs.expect_step.Tie as tie
 
-returns : tie.Need-returns
+returns : tie.Need-returns-then-kind-wanted
 unfolding expect_step
-returns c = rw (c.before.before.before.step.given.1, ← c.before.kind.ensures, eq-eqb _ _ c.if1.true)
+returns c = rw (c.in-Token.is, ← c.kind.ensures, eq-eqb _ _ c.if-kind-wanted.true)
 
-returns-2 : tie.Need-returns-2
+returns-2 : tie.Need-returns-else-kind-wanted
 unfolding expect_step
-returns-2 c = rw (c.before.before.before.before.before.step.given.1, ← c.before.before.before.kind.ensures, ne_eqb _ _ c.before.before.if1.false, c.kind2.ensures, c.before.before.before.kind.ensures)
+returns-2 c = rw (c.in-Token.is, ← c.kind.ensures, ne_eqb _ _ c.if-kind-wanted.false, c.kind-in-Token.ensures, c.kind.ensures)
 
-returns-3 : tie.Need-returns-3
+returns-3 : tie.Need-returns-in-End
 unfolding expect_step
-returns-3 c = rw c.enum_told.given.1
+returns-3 c = rw c.in-End.is
 
-returns-4 : tie.Need-returns-4
+returns-4 : tie.Need-returns-in-No
 unfolding expect_step
-returns-4 c = rw c.enum-told2.given.1
+returns-4 c = rw c.in-No.is
 
-returns-5 : tie.Need-returns-5
+returns-5 : tie.Need-returns-in-Refused
 unfolding expect_step
-returns-5 c = rw c.before.step2.given.1
+returns-5 c = rw c.in-Refused.is
 
-pub expect-step-spec : {M : Type 1} → statement M
-expect-step-spec =
+pub expect_step_spec : {M : Type 1} → statement M
+expect_step_spec =
     tie.close
     (tie.spec
     (λ c. search rules)

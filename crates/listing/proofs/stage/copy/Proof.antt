@@ -5,26 +5,26 @@ use Rattle.listing.proofs.StageLaws.{Copied, copied_none, copied_long, copied_on
 use Rattle.listing.proofs.stage.copy.Statement.{statement}
 use Rattle.listing.proofs.stage.copy.Tie as tie
 
-abbrev invariant-loop : tie.invariant-loop
+abbrev invariant-loop : tie.invariant-loop-i
 invariant-loop staged words table₀ i₀ table i = Copied staged table₀ words i table
 
-abbrev decreases-loop : tie.decreases-loop
+abbrev decreases-loop : tie.decreases-loop-i
 decreases-loop staged words table₀ i₀ table i = words - i
 
-loop-holds : tie.Need-loop-init invariant-loop decreases-loop
+loop-holds : tie.Need-loop-i-init invariant-loop decreases-loop
 loop-holds c = copied_none _ _ _ c.requires.0 c.requires.1
 
-slice-write-table : tie.Need-slice-write-table invariant-loop decreases-loop
-slice-write-table c = omega (arith, c.before.before.before.requires.1, c.before.loop-test.true, copied_long _ _ _ c.before.before.before.requires.0 c.before.before.before.requires.1 _ _ c.before.before.loop.invariant)
+slice-write-table : tie.Need-bounds-table-i invariant-loop decreases-loop
+slice-write-table c = omega (arith, c.requires.1, c.loop-i-test.true, copied_long _ _ _ c.requires.0 c.requires.1 _ _ c.loop-i.invariant)
 
-loop-again : tie.Need-loop-preserved invariant-loop decreases-loop
-loop-again c = copied_on _ _ _ c.before.before.before.requires.0 c.before.before.before.requires.1 _ _ c.before.before.loop.invariant c.before.loop-test.true
+loop-again : tie.Need-loop-i-preserved invariant-loop decreases-loop
+loop-again c = copied_on _ _ _ c.requires.0 c.requires.1 _ _ c.loop-i.invariant c.loop-i-test.true
 
-same_length : tie.Need-same-length invariant-loop decreases-loop
-same_length c = copied_long _ _ _ c.before.before.requires.0 c.before.before.requires.1 _ _ c.before.loop.invariant
+same_length : tie.Need-shape_of-table invariant-loop decreases-loop
+same_length c = copied_long _ _ _ c.requires.0 c.requires.1 _ _ c.loop-i.invariant
 
 returns : tie.Need-returns invariant-loop decreases-loop
-returns c = copied_all _ _ _ c.before.before.requires.0 c.before.before.requires.1 _ _ c.before.loop.invariant (omega (arith, c.loop-test.false))
+returns c = copied_all _ _ _ c.requires.0 c.requires.1 _ _ c.loop-i.invariant (omega (arith, c.loop-i-test.false))
 
 pub copy_spec : {M : Type 1} → statement M
 copy_spec =

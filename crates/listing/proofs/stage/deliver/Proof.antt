@@ -5,24 +5,24 @@ use borrow.Author.Rules.{rules}
 use Rattle.listing.proofs.stage.deliver.Statement.{statement}
 use Rattle.listing.proofs.stage.deliver.Tie as tie
 
-returns : tie.Need-returns
-returns c = rw c.before.before.counted.given.1 (delivered_over _ _ _ c.if1.true)
+returns : tie.Need-returns-then-count-gt-ROW_CAP
+returns c = rw c.in-Count.is (delivered_over _ _ _ c.if-count-gt-ROW_CAP.true)
 
-returns-2 : tie.Need-returns-2
-returns-2 c = rw c.before.before.before.counted.given.1 (delivered_full _ _ _ (omega (arith, c.before.if1.false)) c.if2.true)
+returns-2 : tie.Need-returns-then-words-table
+returns-2 c = rw c.in-Count.is (delivered_full _ _ _ (omega (arith, c.if-count-gt-ROW_CAP.false)) c.if-words-table.true)
 
 copy-requires : tie.Need-copy-requires
-copy-requires c κs = (c.before.before.before.before.before.before.before.before.requires.held _ c.before.before.before.before.counted.given.1 (omega (arith, c.before.before.if1.false)), omega (arith, c.before.if2.false))
+copy-requires c κs = (c.requires.held _ c.in-Count.is (omega (arith, c.if-count-gt-ROW_CAP.false)), omega (arith, c.if-words-table.false))
 
-returns-3 : tie.Need-returns-3
-returns-3 c = rw (c.before.before.before.before.before.before.before.counted.given.1, c.before.before.copy.ensures) (delivered_rows _ _ _ (omega (arith, c.before.before.before.before.before.if1.false)) (omega (arith, c.before.before.before.before.if2.false)))
+returns-3 : tie.Need-returns-else-words-table
+returns-3 c = rw (c.in-Count.is, c.copy.ensures) (delivered_rows _ _ _ (omega (arith, c.if-count-gt-ROW_CAP.false)) (omega (arith, c.if-words-table.false)))
 
-returns-4 : tie.Need-returns-4
+returns-4 : tie.Need-returns-in-Refused
 unfolding delivered
-returns-4 c = rw c.before.counted2.given.1
+returns-4 c = rw c.in-Refused.is
 
-pub deliver-spec : {M : Type 1} → statement M
-deliver-spec =
+pub deliver_spec : {M : Type 1} → statement M
+deliver_spec =
     tie.close
     (tie.spec
     (λ c. search rules)
