@@ -1,6 +1,2 @@
--- The walk of a function over a lent cursor, once for each list of parameters.
-pub mod Answer
-pub mod Moves
-pub mod Steps
-pub mod MovesBy
+-- What is proved of this room beside its contracts.
 pub mod OneAnswer

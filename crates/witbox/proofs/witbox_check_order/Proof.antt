@@ -5,7 +5,7 @@ use Rattle.witbox.proofs.witbox_check_order.Statement.{statement}
 use Rattle.witbox.proofs.witbox_check_order.Tie as tie
 
 returns : tie.Need-returns
-returns c = c.verdict-answer.ensures ∙ ap verdict_numbers c.before.check_order.ensures
+returns c = c.verdict_answer.ensures ∙ ap verdict_numbers c.check_order.ensures
 
-pub witbox-check-order-spec : {M : Type 1} → statement M
-witbox-check-order-spec = tie.close (tie.spec (λ c κs. search rules) (λ c κs. search rules) returns)
+pub witbox_check_order_spec : {M : Type 1} → statement M
+witbox_check_order_spec = tie.close (tie.spec (λ c κs. search rules) (λ c κs. search rules) returns)

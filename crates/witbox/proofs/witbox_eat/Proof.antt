@@ -5,7 +5,7 @@ use Rattle.witbox.proofs.witbox_eat.Statement.{statement}
 use Rattle.witbox.proofs.witbox_eat.Tie as tie
 
 returns : tie.Need-returns
-returns c = c.step-answer.ensures ∙ ap step_numbers c.before.before.eat-at.ensures
+returns c = c.step_answer.ensures ∙ ap step_numbers c.eat_at.ensures
 
-pub witbox-eat-spec : {M : Type 1} → statement M
-witbox-eat-spec = tie.close (tie.spec (λ c κs. search rules) (λ c κs. search rules) returns)
+pub witbox_eat_spec : {M : Type 1} → statement M
+witbox_eat_spec = tie.close (tie.spec (λ c κs. search rules) (λ c κs. search rules) returns)

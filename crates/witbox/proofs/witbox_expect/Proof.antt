@@ -5,7 +5,7 @@ use Rattle.witbox.proofs.witbox_expect.Statement.{statement}
 use Rattle.witbox.proofs.witbox_expect.Tie as tie
 
 returns : tie.Need-returns
-returns c = c.step-answer.ensures ∙ ap step_numbers c.before.before.expect-at.ensures
+returns c = c.step_answer.ensures ∙ ap step_numbers c.expect_at.ensures
 
-pub witbox-expect-spec : {M : Type 1} → statement M
-witbox-expect-spec = tie.close (tie.spec (λ c κs. search rules) (λ c κs. search rules) returns)
+pub witbox_expect_spec : {M : Type 1} → statement M
+witbox_expect_spec = tie.close (tie.spec (λ c κs. search rules) (λ c κs. search rules) returns)

@@ -6,7 +6,7 @@ use Rattle.witbox.proofs.witbox_list.Tie as tie
 
 returns : tie.Need-returns
 unfolding count_numbers
-returns c = rw c.list-answer.ensures (ap count_numbers c.before.before.before.list.ensures)
+returns c = rw c.list_answer.ensures (ap count_numbers c.list.ensures)
 
-pub witbox-list-spec : {M : Type 1} → statement M
-witbox-list-spec = tie.close (tie.spec (λ c κs. search rules) (λ c κs. search rules) (λ c. search rules) returns)
+pub witbox_list_spec : {M : Type 1} → statement M
+witbox_list_spec = tie.close (tie.spec (λ c κs. search rules) (λ c κs. search rules) (λ c. search rules) returns)

@@ -5,7 +5,7 @@ use Rattle.witbox.proofs.witbox_next_raw.Statement.{statement}
 use Rattle.witbox.proofs.witbox_next_raw.Tie as tie
 
 returns : tie.Need-returns
-returns c = c.step-answer.ensures ∙ ap step_numbers c.before.before.next-raw-at.ensures
+returns c = c.step_answer.ensures ∙ ap step_numbers c.next_raw_at.ensures
 
-pub witbox-next-raw-spec : {M : Type 1} → statement M
-witbox-next-raw-spec = tie.close (tie.spec (λ c κs. search rules) (λ c κs. search rules) returns)
+pub witbox_next_raw_spec : {M : Type 1} → statement M
+witbox_next_raw_spec = tie.close (tie.spec (λ c κs. search rules) (λ c κs. search rules) returns)

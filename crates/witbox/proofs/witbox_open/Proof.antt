@@ -5,7 +5,7 @@ use Rattle.witbox.proofs.witbox_open.Statement.{statement}
 use Rattle.witbox.proofs.witbox_open.Tie as tie
 
 returns : tie.Need-returns
-returns c = c.open-answer.ensures ∙ ap open_numbers c.before.«open».ensures
+returns c = c.open_answer.ensures ∙ ap open_numbers c.before.«open».ensures
 
-pub witbox-open-spec : {M : Type 1} → statement M
-witbox-open-spec = tie.close (tie.spec (λ c κs. search rules) (λ c κs. search rules) returns)
+pub witbox_open_spec : {M : Type 1} → statement M
+witbox_open_spec = tie.close (tie.spec (λ c κs. search rules) (λ c κs. search rules) returns)

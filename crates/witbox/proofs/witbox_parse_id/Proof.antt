@@ -5,11 +5,11 @@ use borrow.Author.Rules.{rules}
 use Rattle.witbox.proofs.witbox_parse_id.Statement.{statement}
 use Rattle.witbox.proofs.witbox_parse_id.Tie as tie
 
-name-answer-requires : tie.Need-name-answer-requires
-name-answer-requires c κs = plain_forward _ _ _ _ c.validate-id.ensures
+name-answer-requires : tie.Need-name_answer-requires
+name-answer-requires c κs = plain_forward _ _ _ _ c.validate_id.ensures
 
 returns : tie.Need-returns
-returns c = c.name-answer.ensures ∙ ap name_numbers c.before.validate-id.ensures
+returns c = c.name_answer.ensures ∙ ap name_numbers c.validate_id.ensures
 
-pub witbox-parse-id-spec : {M : Type 1} → statement M
-witbox-parse-id-spec = tie.close (tie.spec (λ c κs. search rules) name-answer-requires returns)
+pub witbox_parse_id_spec : {M : Type 1} → statement M
+witbox_parse_id_spec = tie.close (tie.spec (λ c κs. search rules) name-answer-requires returns)

@@ -6,8 +6,8 @@ use Rattle.witbox.proofs.witbox_toposort.Tie as tie
 
 returns : tie.Need-returns
 unfolding sort_numbers
-returns c = rw c.sort-answer.ensures (ap sort_numbers c.before.before.before.toposort.ensures)
+returns c = rw c.sort_answer.ensures (ap sort_numbers c.toposort.ensures)
 
-pub witbox-toposort-spec : {M : Type 1} → statement M
-witbox-toposort-spec =
+pub witbox_toposort_spec : {M : Type 1} → statement M
+witbox_toposort_spec =
     tie.close (tie.spec (λ c κs. search rules) (λ c κs. search rules) (λ c. search rules) returns)

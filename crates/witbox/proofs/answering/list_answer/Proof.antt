@@ -3,16 +3,16 @@ use borrow.Author.Rules.{rules}
 use Rattle.witbox.proofs.answering.list_answer.Statement.{statement}
 use Rattle.witbox.proofs.answering.list_answer.Tie as tie
 
-returns : tie.Need-returns
+returns : tie.Need-returns-in-Count
 unfolding count_of
-returns c = rw c.before.before.listed.given.1 c.accepted.ensures
+returns c = rw c.in-Count.is c.accepted.ensures
 
-returns-2 : tie.Need-returns-2
+returns-2 : tie.Need-returns-in-Refused
 unfolding count_of
-returns-2 c = rw c.before.before.listed2.given.1 c.refused.ensures
+returns-2 c = rw c.in-Refused.is c.refused.ensures
 
-pub list-answer-spec : {M : Type 1} → statement M
-list-answer-spec =
+pub list_answer_spec : {M : Type 1} → statement M
+list_answer_spec =
     tie.close
     (tie.spec
     (λ c. search rules)

@@ -5,7 +5,7 @@ use Rattle.witbox.proofs.answering.refused.Tie as tie
 
 returns : tie.Need-returns
 unfolding refused_count
-returns c = rw c.numbers.ensures
+returns c = rw c.numbers-told.ensures
 
-pub refused-spec : {M : Type 1} → statement M
-refused-spec = tie.close (tie.spec (λ c κs. search rules) returns)
+pub refused_spec : {M : Type 1} → statement M
+refused_spec = tie.close (tie.spec (λ c κs. search rules) returns)

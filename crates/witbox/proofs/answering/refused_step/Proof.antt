@@ -5,7 +5,7 @@ use Rattle.witbox.proofs.answering.refused_step.Tie as tie
 
 returns : tie.Need-returns
 unfolding refused_step
-returns c = rw c.numbers.ensures
+returns c = rw c.numbers-told.ensures
 
-pub refused-step-spec : {M : Type 1} → statement M
-refused-step-spec = tie.close (tie.spec (λ c κs. search rules) returns)
+pub refused_step_spec : {M : Type 1} → statement M
+refused_step_spec = tie.close (tie.spec (λ c κs. search rules) returns)

@@ -5,7 +5,7 @@ use Rattle.witbox.proofs.answering.sort_answer.Tie as tie
 
 returns : tie.Need-returns
 unfolding sort_of
-returns c = rw c.numbers.ensures
+returns c = rw c.numbers-told.ensures
 
-pub sort-answer-spec : {M : Type 1} → statement M
-sort-answer-spec = tie.close (tie.spec (λ c κs. search rules) returns)
+pub sort_answer_spec : {M : Type 1} → statement M
+sort_answer_spec = tie.close (tie.spec (λ c κs. search rules) returns)

@@ -5,7 +5,7 @@ use Rattle.witbox.proofs.answering.step_answer.Tie as tie
 
 returns : tie.Need-returns
 unfolding step_numbers
-returns c = rw c.step_of_lem.ensures
+returns c = rw c.step_of.ensures
 
-pub step-answer-spec : {M : Type 1} → statement M
-step-answer-spec = tie.close (tie.spec (λ c κs. search rules) returns)
+pub step_answer_spec : {M : Type 1} → statement M
+step_answer_spec = tie.close (tie.spec (λ c κs. search rules) returns)

@@ -3,16 +3,16 @@ use borrow.Author.Rules.{rules}
 use Rattle.witbox.proofs.answering.value_answer.Statement.{statement}
 use Rattle.witbox.proofs.answering.value_answer.Tie as tie
 
-returns : tie.Need-returns
+returns : tie.Need-returns-in-Value
 unfolding value_of
-returns c = rw c.before.before.value.given.1 c.accepted.ensures
+returns c = rw c.in-Value.is c.accepted.ensures
 
-returns-2 : tie.Need-returns-2
+returns-2 : tie.Need-returns-in-Refused
 unfolding value_of
-returns-2 c = rw c.before.before.value2.given.1 c.refused.ensures
+returns-2 c = rw c.in-Refused.is c.refused.ensures
 
-pub value-answer-spec : {M : Type 1} → statement M
-value-answer-spec =
+pub value_answer_spec : {M : Type 1} → statement M
+value_answer_spec =
     tie.close
     (tie.spec
     (λ c. search rules)

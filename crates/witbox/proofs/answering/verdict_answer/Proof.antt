@@ -5,7 +5,7 @@ use Rattle.witbox.proofs.answering.verdict_answer.Tie as tie
 
 returns : tie.Need-returns
 unfolding verdict_numbers
-returns c = rw c.numbers.ensures
+returns c = rw c.numbers-told.ensures
 
-pub verdict-answer-spec : {M : Type 1} → statement M
-verdict-answer-spec = tie.close (tie.spec (λ c κs. search rules) returns)
+pub verdict_answer_spec : {M : Type 1} → statement M
+verdict_answer_spec = tie.close (tie.spec (λ c κs. search rules) returns)
