@@ -11,7 +11,20 @@ use Rattle.terms.proofs.BytesLaws.{same_self}
 use Rattle.review.proofs.Calls.{Call, lent, answered, computed}
 use Rattle.review.proofs.Calls.Call.{opening, next_raw, next, eat, expect, list_raw, list}
 use Rattle.review.proofs.Calls.Call.{string_literal, parse_id, parse_explicit_id, toposort, check_order, propose}
-use Rattle.review.proofs.Paper.{needy, circle, twice}
+
+-- P12's sheet, with names `abc`: item 0 needs 1; 1 and 2 need none.
+abbrev pub needy : List ℕ
+needy = 3 ∷ 1 ∷ 5 ∷ 17 ∷ 21 ∷ 0 ∷ 1 ∷ 0 ∷ 1 ∷ 1 ∷ 1 ∷ 1 ∷ 0 ∷ 2 ∷ 1 ∷ 1 ∷ 0 ∷ 1 ∷ 1 ∷ 0 ∷ 0 ∷ []
+
+-- P13's sheet, with names `abc`: 0 needs 1, 1 needs 2, 2 needs 1.
+abbrev pub circle : List ℕ
+circle =
+    3 ∷ 3 ∷ 5 ∷ 17 ∷ 29 ∷ 0 ∷ 1 ∷ 0 ∷ 1 ∷ 1 ∷ 1 ∷ 1 ∷ 1 ∷ 2 ∷ 1 ∷ 2 ∷ 1
+    ∷ 1 ∷ 1 ∷ 0 ∷ 0 ∷ 2 ∷ 1 ∷ 0 ∷ 0 ∷ 1 ∷ 1 ∷ 0 ∷ 0 ∷ []
+
+-- P14's sheet, with names `ab`: 0 needs 1, and lists it twice.
+abbrev pub twice : List ℕ
+twice = 2 ∷ 2 ∷ 5 ∷ 13 ∷ 21 ∷ 0 ∷ 1 ∷ 0 ∷ 2 ∷ 1 ∷ 1 ∷ 2 ∷ 0 ∷ 1 ∷ 1 ∷ 0 ∷ 0 ∷ 1 ∷ 1 ∷ 0 ∷ 0 ∷ []
 
 -- Items `a` and `b`: 1 needs 0, and itself.
 abbrev pub selfish : List ℕ
