@@ -88,6 +88,7 @@ pub fn in_map(offset: u32, place: Place) -> Position
 }
 
 // 1: a text, or the names of a sheet, of this many bytes.
+#[tactic(auto, unfolding(crate::specs::Caps::length_verdict))]
 pub fn check_length(length: usize) -> Verdict
     ensures { result ≡ length_verdict length }
 {

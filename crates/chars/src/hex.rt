@@ -3,6 +3,7 @@ ghost use Rattle.std.specs.Prelude.{◌≡◌};
 ghost use Rattle.chars.specs.Hex.{to_hex};
 
 // The value of a hexadecimal digit; 16 for any other character.
+#[tactic(auto, unfolding(crate::specs::Hex::to_hex, crate::specs::Hex::hex_digits, terms::specs::Terms::said, terms::specs::Terms::within))]
 pub fn to_hex(c: u32) -> u32
     ensures { result ≡ to_hex c }
 {

@@ -127,6 +127,7 @@ pub fn read_at(text: &[u8], at: Place) -> Read
 }
 
 // What stands at a place is one byte that no folding changes: below 0x80, and no carriage return.
+#[tactic(auto, unfolding(crate::specs::inner::Single::single_at, crate::specs::Utf8::byte_at))]
 pub fn single_at(text: &[u8], at: Place) -> bool
     ensures { result ≡ single_at text.now at }
 {

@@ -19,6 +19,7 @@ fn short_start(c: u32) -> bool
 }
 
 // XID_Continue up to U+02C1.
+#[tactic(auto, unfolding(crate::specs::Classes::short_continue))]
 pub(crate) fn short_continue(c: u32) -> bool
     ensures { result ≡ short_continue c }
 {

@@ -12,6 +12,7 @@ use answers::Place;
 use chars::Read;
 
 // A keylike continuation, by the lent tables of XID_Continue; up to U+02C1 they are not asked.
+#[tactic(auto, unfolding(crate::specs::Classes::keylike_continue, crate::specs::Classes::xid_continue), using(crate::proofs::ShortLaws::continue_short))]
 fn continues(firsts: &[u32], lasts: &[u32], c: u32) -> bool
     requires { Continuing firsts.now lasts.now }
     ensures { result ≡ keylike_continue c }

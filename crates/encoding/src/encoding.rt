@@ -4,6 +4,7 @@ ghost use Rattle.chars.specs.Utf8;
 ghost use Rattle.chars.specs.Utf8.{is_scalar, encoded};
 
 // The numbers that are characters.
+#[tactic(auto, unfolding(chars::specs::Utf8::is_scalar))]
 pub fn is_scalar(c: u32) -> bool
     ensures { result ≡ is_scalar c }
 {

@@ -26,6 +26,7 @@ fn of_case(low: u8, b: u8) -> bool
 }
 
 // 0 where the byte b may stand behind p, else 1. A number, so that a loop over it has no branch.
+#[tactic(auto, unfolding(crate::specs::inner::OneCase::follows))]
 fn odd(low: u8, p: u8, b: u8) -> u8
     requires { low ≤ 0x61 }
     ensures { result ≡ bit (not (follows low p b)) }

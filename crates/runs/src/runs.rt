@@ -10,6 +10,7 @@ use answers::{Place, Refusal};
 use chars::{AsciiSet, Read};
 
 // Newline, tab, space.
+#[tactic(auto, unfolding(crate::specs::Comments::blank))]
 fn is_blank(c: u32) -> bool
     ensures { result ≡ blank c }
 {

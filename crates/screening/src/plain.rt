@@ -22,6 +22,7 @@ fn odd(b: u8) -> bool
 }
 
 // A byte at which the plain text less the bytes x, y and z ends.
+#[tactic(auto, unfolding(crate::specs::inner::Plain::halts))]
 fn stops(b: u8, x: u8, y: u8, z: u8) -> bool
     ensures { result ≡ halts x y z b }
 {

@@ -1,8 +1,7 @@
 -- Each return is a row of `text_verdict`: the length's verdict first, and where it accepts, the test against the map's end.
-use Rattle.std.proofs.Common.{◌≡◌, sym, arith, le-leb}
+use Rattle.std.proofs.Common.{sym, arith, le-leb}
 use borrow.Author.Tests.{lt-leb}
-use Rattle.answers.specs.Caps.{length_verdict, text_verdict, map_verdict, first_of}
-use Rattle.answers.specs.declared.Verdict.TheVariants.{Accepted}
+use Rattle.answers.specs.Caps.{text_verdict, map_verdict, first_of}
 use Rattle.answers.proofs.CapsLaws.{length_in}
 use Rattle.answers.proofs.check_text.Goals as goal
 

@@ -22,16 +22,6 @@ add-t11 c =
     let r : tie.In-Char = c.before.before.before.before in
     omega (arith, onward _ _ _ _ (stands r))
 
-returns : tie.Need-returns-then-byte_at-eq10
-returns c =
-    let r : tie.In-Char = c.before.before.before.before in
-    sym (cr_lf_folded _ _ _ _ (stands r) c.if-c-eq13.true (sym c.byte_at.ensures ∙ c.if-byte_at-eq10.true))
-
-returns-4 : tie.Need-returns-else-byte_at-eq10
-returns-4 c =
-    let r : tie.In-Char = c.before.before.before in
-    sym (as_folded_before _ _ _ _ (stands r) (λ e. c.if-byte_at-eq10.false (c.byte_at.ensures ∙ e)))
-
 pub any_folded_at_spec : {M : Type 1} → statement M
 unfolding folded_at folded
 any_folded_at_spec =
@@ -43,8 +33,8 @@ any_folded_at_spec =
     (λ c. search rules)
     (λ c κs. search rules)
     add-t11
-    returns
+    (λ c. sym (cr_lf_folded _ _ _ _ (stands c.before.before.before.before) c.if-c-eq13.true (sym c.byte_at.ensures ∙ omega arith)))
     (λ c. rw (← c.read_at.ensures, c.in-End.is))
     (λ c. rw (← c.read_at.ensures, c.in-Ill.is))
-    returns-4
+    (λ c. sym (as_folded_before _ _ _ _ (stands c.before.before.before) (λ e. omega (arith, c.byte_at.ensures, e))))
     (λ c. sym (as_folded _ _ _ _ (stands c.before) c.if-c-eq13.false)))

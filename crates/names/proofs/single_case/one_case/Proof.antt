@@ -17,7 +17,7 @@ returns-4 c z q =
     let cased : tie.After-case_of-low = c.before.before.before in
     let a = (top cased).args in
     one_case_accepted q a.text.now a.from.0 a.end.0 (omega arith) (omega arith) (omega arith)
-    cased.if-text-to-eq45.false
+    (λ e. omega (arith, e))
     (rw (← cased.case_of-low.ensures, ← c.of_case.ensures) c.if-not-of_case.false)
     (rw (← cased.case_of-low.ensures) (c.joined.ensures z))
 

@@ -65,11 +65,6 @@ returns-2 c =
     let s : Seen = c.before in
     sym (behind s.before ∙ line_ill _ _ _ (stands s _ c.in-Ill.is))
 
-returns-3 : tie.Need-returns-then-c-eq10 invariant-loop decreases-loop
-returns-3 c =
-    let t : Char-there = c.before in
-    sym (behind (run t) ∙ line_newline _ _ _ _ (stands_char t) c.if-c-eq10.true)
-
 loop-less : tie.Need-loop-ill-smaller invariant-loop decreases-loop
 loop-less c =
     let t : Char-there = c.before in
@@ -78,7 +73,7 @@ loop-less c =
 loop-again : tie.Need-loop-ill-preserved invariant-loop decreases-loop
 loop-again c =
     let t : Char-there = c.before in
-    behind (run t) ∙ line_other _ _ _ _ (stands_char t) c.if-c-eq10.false
+    behind (run t) ∙ line_other _ _ _ _ (stands_char t) (λ e. omega (arith, e))
 
 pub line_comment_spec : {M : Type 1} → statement M
 line_comment_spec =
@@ -94,6 +89,6 @@ line_comment_spec =
     (λ c. search rules)
     returns-2
     (λ c. search rules)
-    returns-3
+    (λ c. sym (behind (run c.before) ∙ line_newline _ _ _ _ (stands_char c.before) (omega arith)))
     loop-less
     loop-again)
