@@ -1,6 +1,6 @@
 -- What a text that passes 1 and 2 has: a length, and positions that are sums as they stand.
+use Rattle.std.specs.Prelude.{if◌then◌else◌}
 use Rattle.std.proofs.Common.{◌≡◌, ℕ, ◌+◌, ◌≤◌, min, Bool, true, false, leb, refl, arith, le-leb, leb-true}
-use Rattle.terms.specs.Terms.{if◌then◌else◌}
 use Rattle.answers.specs.declared.Place.{Place}
 use Rattle.answers.specs.declared.Verdict.{Verdict}
 use Rattle.answers.specs.declared.Verdict.TheVariants.{Accepted, Refused}

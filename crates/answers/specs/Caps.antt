@@ -1,6 +1,5 @@
 -- 01, refusals 1 and 2: how long a text or the names may be, and where in the map a text may stand.
-use Rattle.std.specs.Prelude.{ℕ, ◌+◌, min, nat_le}
-use Rattle.terms.specs.Terms.{if◌then◌else◌}
+use Rattle.std.specs.Prelude.{ℕ, ◌+◌, min, nat_le, if◌then◌else◌}
 use Rattle.answers.specs.declared.Verdict.{Verdict}
 use Rattle.answers.specs.declared.Verdict.TheVariants.{Accepted, Refused}
 use Rattle.answers.specs.declared.Refusal.TheVariants.{TooLong, OutOfMap}

@@ -1,4 +1,5 @@
 -- A run of bytes of one set is as many characters, of one byte each.
+use Rattle.std.specs.Prelude.{if◌then◌else◌}
 use Prim.Native.Nat.{ℕ, ◌-◌, ◌/◌, ◌%◌, ◌^◌, ◌≤◌, ◌<◌, min}
 use mathlib.Core.Path.{◌≡◌, refl}
 use mathlib.Core.Bool.{Bool, true, false, not, ◌||◌}
@@ -7,7 +8,6 @@ use native.Mathlib.Omega.{arith}
 use lib.Dec.{ltb, eqb}
 use lib.ListN.{length}
 use borrow.Author.Tests.{ltb-true, not-true, not-false}
-use Rattle.terms.specs.Terms.{if◌then◌else◌}
 use Rattle.terms.proofs.TestLaws.{clash}
 use Rattle.terms.proofs.BelowLaws.{all_below, below}
 use Rattle.terms.proofs.FirstLaws.{first_le, first_from, first_passes}
@@ -28,7 +28,7 @@ unfolding in_set
 in_set_low set b e = go (ltb b 64) refl (ltb b 128) refl e
   where
     go : (t : Bool) → ltb b 64 ≡ t → (u : Bool) → ltb b 128 ≡ u
-        → (if t then eqb (set.low / 2 ^ b % 2) 1 else if u then eqb (set.high / 2 ^ (b - 64) % 2) 1 else false) ≡ true → b < 0x80
+        → (if t then eqb (set.low / 2 ^ b % 2) 1 else (if u then eqb (set.high / 2 ^ (b - 64) % 2) 1 else false)) ≡ true → b < 0x80
     go true h u g e = let z = ltb-true b 64 h in omega arith
     go false h true g e = ltb-true b 128 g
     go false h false g e = absurd (clash false e refl)

@@ -1,4 +1,5 @@
 -- A place where a byte reads as itself is one character.
+use Rattle.std.specs.Prelude.{if◌then◌else◌}
 use Prim.Native.Nat.{ℕ, ◌<◌}
 use mathlib.Core.Path.{◌≡◌, refl}
 use mathlib.Core.Bool.{Bool, true, false, not, ◌&&◌, ◌||◌}
@@ -6,7 +7,6 @@ use mathlib.Core.List.{List}
 use lib.Dec.{leb, ltb, eqb}
 use lib.ListN.{length}
 use borrow.Author.Tests.{ltb-true, leb-false, eqb-false, not-true}
-use Rattle.terms.specs.Terms.{if◌then◌else◌}
 use Rattle.terms.proofs.TestLaws.{and_both, clash}
 use Rattle.answers.specs.declared.Place.{Place}
 use Rattle.answers.specs.Caps.{cap}

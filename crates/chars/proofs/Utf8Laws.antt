@@ -1,4 +1,5 @@
 -- What `specs/Utf8.antt` yields: bounds on the bytes of a sequence, that a character ends beyond its start and within the text, and that it is a scalar.
+use Rattle.std.specs.Prelude.{if◌then◌else◌}
 use Prim.Native.Nat.{ℕ, ◌≤◌, ◌<◌, ◌+◌, ◌*◌, min}
 use mathlib.Core.Path.{◌≡◌, refl, sym, ap, ◌∙◌}
 use mathlib.Core.Bool.{Bool, true, false, ◌&&◌, ◌||◌}
@@ -9,7 +10,7 @@ use native.Mathlib.Omega.{arith}
 use lib.Dec.{leb}
 use lib.ListN.{length, get_or, get_or-eq_default}
 use borrow.Author.Tests.{leb-true, leb-false, le-leb, lt-leb}
-use Rattle.terms.specs.Terms.{if◌then◌else◌, within, Row, ◌to◌is◌, said}
+use Rattle.terms.specs.Terms.{within, Row, ◌to◌is◌, said}
 use Rattle.terms.proofs.TestLaws.{and_both, within_true, within_yes}
 use Rattle.terms.proofs.TableLaws.{Rest, in_match, word, is_key, is_keys, up, down, split}
 use Rattle.answers.specs.declared.Place.{Place}

@@ -1,5 +1,6 @@
 -- The laws of a view: what stands at a place says how the view from there begins, and it goes on from the next place.
 -- No proof above these looks at the number of turns.
+use Rattle.std.specs.Prelude.{if◌then◌else◌}
 use Prim.Native.Nat.{ℕ, zero, suc, ◌≤◌, ◌<◌, ◌+◌, ◌-◌}
 use mathlib.Core.Path.{◌≡◌, refl, sym, ap, ◌∙◌}
 use mathlib.Core.Bool.{Bool, true, false, ◌&&◌, and-false}
@@ -10,7 +11,6 @@ use native.Mathlib.Omega.{arith}
 use lib.Dec.{eqb}
 use lib.ListN.{length}
 use borrow.Author.Tests.{eqb-true, eq-eqb, ne_eqb}
-use Rattle.terms.specs.Terms.{if◌then◌else◌}
 use Rattle.terms.proofs.TestLaws.{and_both}
 use Rattle.answers.specs.declared.Place.{Place}
 use Rattle.answers.specs.declared.Ill.{Ill as Sequence}

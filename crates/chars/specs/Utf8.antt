@@ -1,6 +1,6 @@
 -- RFC 3629: what stands at a place of a text, and the bytes of a character.
-use Rattle.std.specs.Prelude.{ℕ, ◌+◌, ◌-◌, ◌*◌, ◌/◌, ◌%◌, Bool, ◌&&◌, ◌||◌, List, [], ◌∷◌, ◌++◌, length, get_or, drop, leb}
-use Rattle.terms.specs.Terms.{if◌then◌else◌, within, Row, ◌to◌is◌, said}
+use Rattle.std.specs.Prelude.{ℕ, ◌+◌, ◌-◌, ◌*◌, ◌/◌, ◌%◌, Bool, ◌&&◌, ◌||◌, List, [], ◌∷◌, ◌++◌, length, get_or, drop, leb, if◌then◌else◌}
+use Rattle.terms.specs.Terms.{within, Row, ◌to◌is◌, said}
 use Rattle.answers.specs.declared.Place.{Place}
 use Rattle.answers.specs.Places.{place}
 use Rattle.answers.specs.Caps.{cap}
@@ -66,9 +66,9 @@ is_scalar c = leb c 0xD7FF || within 0xE000 0x10FFFF c
 unfoldable pub encode : ℕ → List ℕ
 encode c =
     if leb c 0x7F then c ∷ []
-    else if leb c 0x7FF then (0xC0 + c / 64) ∷ (0x80 + c % 64) ∷ []
-    else if leb c 0xFFFF then (0xE0 + c / 4096) ∷ (0x80 + c / 64 % 64) ∷ (0x80 + c % 64) ∷ []
-    else (0xF0 + c / 262144) ∷ (0x80 + c / 4096 % 64) ∷ (0x80 + c / 64 % 64) ∷ (0x80 + c % 64) ∷ []
+    else (if leb c 0x7FF then (0xC0 + c / 64) ∷ (0x80 + c % 64) ∷ []
+    else (if leb c 0xFFFF then (0xE0 + c / 4096) ∷ (0x80 + c / 64 % 64) ∷ (0x80 + c % 64) ∷ []
+    else (0xF0 + c / 262144) ∷ (0x80 + c / 4096 % 64) ∷ (0x80 + c / 64 % 64) ∷ (0x80 + c % 64) ∷ []))
 
 -- The bytes of a character at the front of a buffer, counted; no character, or no room, leaves the buffer as it was and counts 0.
 unfoldable pub encoded : ℕ → List ℕ → ℕ × List ℕ

@@ -1,6 +1,5 @@
 -- A text as the characters from a place on. The rules of the rooms above go by this view, one character a turn.
-use Rattle.std.specs.Prelude.{ℕ, zero, suc, ◌-◌, ◌&&◌, List, length, eqb}
-use Rattle.terms.specs.Terms.{if◌then◌else◌}
+use Rattle.std.specs.Prelude.{ℕ, zero, suc, ◌-◌, ◌&&◌, List, length, eqb, if◌then◌else◌}
 use Rattle.answers.specs.declared.Place.{Place}
 use Rattle.answers.specs.declared.Ill.{Ill as Sequence}
 use Rattle.answers.specs.declared.Verdict.{Verdict}

@@ -1,6 +1,5 @@
 //! Runs: bytes of one set, passed over at once. A character of one byte is its byte, so the rules above use this where it is faster.
-ghost use Rattle.std.specs.Prelude.{◌≡◌, min, length, ltb};
-ghost use Rattle.terms.specs.Terms.{if◌then◌else◌};
+ghost use Rattle.std.specs.Prelude.{◌≡◌, min, length, ltb, if◌then◌else◌};
 ghost use Rattle.answers.specs.Caps.{cap};
 ghost use Rattle.chars.specs.inner.Runs.{in_set, run_end};
 

@@ -1,6 +1,6 @@
 -- 01, "Dependency sheet": the answer to a sheet, and what the order slice then holds.
-use Rattle.std.specs.Prelude.{ℕ, List, length, eqb, leb}
-use Rattle.terms.specs.Terms.{if◌then◌else◌, over}
+use Rattle.std.specs.Prelude.{ℕ, List, length, eqb, leb, if◌then◌else◌}
+use Rattle.terms.specs.Terms.{over}
 use Rattle.answers.specs.declared.Verdict.{Verdict}
 use Rattle.answers.specs.declared.Verdict.TheVariants.{Accepted, Refused}
 use Rattle.answers.specs.declared.Refusal.TheVariants.{NoRoom, TypeCycle}

@@ -1,5 +1,6 @@
 -- The clerk's order is whole exactly if no chain of dependencies leads from an item to itself. It is then a permutation of the items, with each
 -- dependency before what needs it. Where it is not whole, some edge has both ends unplaced.
+use Rattle.std.specs.Prelude.{if◌then◌else◌}
 use Prim.Native.Nat.{ℕ, zero, suc, ◌+◌, ◌≤◌, ◌<◌}
 use mathlib.Core.Path.{◌≡◌, refl}
 use mathlib.Core.Bool.{Bool, true, false, not, ◌&&◌, ◌||◌}
@@ -11,7 +12,7 @@ use lib.ListN.{length, take, length-append, get_or-append}
 use lib.Seq.{get_or-append_seam, take-append_seam, take-append-le}
 use lib.Dec.{eqb, ltb}
 use borrow.Author.Tests.{eqb-true, eqb-false, ltb-true, ltb-false}
-use Rattle.terms.specs.Terms.{if◌then◌else◌, count, member}
+use Rattle.terms.specs.Terms.{count, member}
 use Rattle.graph.specs.Order.{Edge, unmet, ready, next, placing, order, no_edge, stuck_at, first_stuck}
 use Rattle.graph.specs.Chain.{Has, Chain, Acyclic, Targeted, Permutation, Ordered}
 use Rattle.graph.specs.Chain.Chain.{one, more}

@@ -1,6 +1,6 @@
 -- The clerk's order. Items are the numbers below n, in the order in which the sheet lists them; an edge is a listed dependency.
-use Rattle.std.specs.Prelude.{ℕ, zero, suc, Bool, not, ◌&&◌, List, [], ◌∷◌, ◌++◌, length, get_or, eqb, ltb}
-use Rattle.terms.specs.Terms.{if◌then◌else◌, first, count, member}
+use Rattle.std.specs.Prelude.{ℕ, zero, suc, Bool, not, ◌&&◌, List, [], ◌∷◌, ◌++◌, length, get_or, eqb, ltb, if◌then◌else◌}
+use Rattle.terms.specs.Terms.{first, count, member}
 
 -- A listed dependency: the item that needs, and the item that it needs, its target.
 pub record Edge : Type 0 where

@@ -1,4 +1,5 @@
 -- Only keywords of a word's own length can be the word.
+use Rattle.std.specs.Prelude.{if◌then◌else◌}
 use Prim.Native.Nat.{ℕ}
 use mathlib.Core.Path.{◌≡◌, refl, sym, ap, ◌∙◌}
 use mathlib.Core.Bool.{Bool, true, false}
@@ -6,7 +7,7 @@ use mathlib.Core.List.{List, [], ◌∷◌}
 use lib.ListN.{length}
 use lib.Dec.{eqb}
 use borrow.Author.Tests.{eqb-false, ne_eqb}
-use Rattle.terms.specs.Terms.{if◌then◌else◌, same_bytes, ascii}
+use Rattle.terms.specs.Terms.{same_bytes, ascii}
 use Rattle.terms.proofs.BytesLaws.{same_longer}
 use Rattle.terms.proofs.TableLaws.{Rest, is_key, is_keys, keys_out}
 use Rattle.kinds.specs.declared.Token.{Token}

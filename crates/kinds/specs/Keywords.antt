@@ -1,7 +1,7 @@
 -- 01, "Tokens": the 44 keywords of lex.rs, by exact bytes, in the order of its `match`.
-use Rattle.std.specs.Prelude.{ℕ, List, [], ◌∷◌}
+use Rattle.std.specs.Prelude.{ℕ, List, [], ◌∷◌, if◌then◌else◌}
 use Prim.Native.String.{String}
-use Rattle.terms.specs.Terms.{if◌then◌else◌, same_bytes, ascii}
+use Rattle.terms.specs.Terms.{same_bytes, ascii}
 use Rattle.kinds.specs.declared.Token.{Token}
 
 infix 90 ◌keys◌

@@ -1,6 +1,6 @@
 //! Words: the keyword that a word's bytes are. Only keywords of the word's own length are compared.
-ghost use Rattle.std.specs.Prelude.{◌≡◌};
-ghost use Rattle.terms.specs.Terms.{if◌then◌else◌, same_bytes};
+ghost use Rattle.std.specs.Prelude.{◌≡◌, if◌then◌else◌};
+ghost use Rattle.terms.specs.Terms.{same_bytes};
 ghost use Rattle.kinds.specs.Keywords;
 ghost use Rattle.kinds.specs.Keywords.{keywords, key_in};
 ghost use Rattle.kinds.specs.inner.ByLength.{of_length};

@@ -1,4 +1,5 @@
 -- The walk of a listing: what it holds on the way, and that what it delivers is the listing.
+use Rattle.std.specs.Prelude.{if◌then◌else◌}
 use Prim.Native.Nat.{ℕ, suc, ◌+◌, ◌*◌, ◌≤◌, ◌<◌}
 use mathlib.Core.Path.{◌≡◌, refl, sym, ap, subst, ◌∙◌}
 use mathlib.Core.Bool.{Bool, true, false}
@@ -10,7 +11,7 @@ use lib.Dec.{leb}
 use lib.Seq.{take_at, drop_at, drop-drop, sets-eq, paste, paste-zero, paste-suc, length-paste}
 use Rattle.kinds.specs.Kinds.{kind_of}
 use borrow.Author.Tests.{le-leb, lt-leb, leb-true}
-use Rattle.terms.specs.Terms.{if◌then◌else◌, over}
+use Rattle.terms.specs.Terms.{over}
 use Rattle.answers.specs.declared.Place.{Place}
 use Rattle.answers.specs.declared.Span.{Span}
 use Rattle.answers.specs.declared.Refusal.{Refusal}

@@ -1,6 +1,5 @@
 -- 01, "Tokens" and "How far each contract reaches": what is promised of whole listings beyond the equation of each. The theorems are in proofs/Coverage.antt.
-use Rattle.std.specs.Prelude.{ℕ, ◌≡◌, Bool, ◌&&◌, List, [], ◌∷◌, ◌++◌, length, eqb, ltb}
-use Rattle.terms.specs.Terms.{if◌then◌else◌}
+use Rattle.std.specs.Prelude.{ℕ, ◌≡◌, Bool, ◌&&◌, List, [], ◌∷◌, ◌++◌, length, eqb, ltb, if◌then◌else◌}
 use Rattle.answers.specs.declared.Place.{Place}
 use Rattle.answers.specs.Places.{place}
 use Rattle.steps.specs.declared.Step.{Step}

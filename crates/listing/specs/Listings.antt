@@ -1,6 +1,6 @@
 -- 01, "Tokens": listings into a lent table.
-use Rattle.std.specs.Prelude.{ℕ, ◌*◌, List, length, leb}
-use Rattle.terms.specs.Terms.{if◌then◌else◌, over}
+use Rattle.std.specs.Prelude.{ℕ, ◌*◌, List, length, leb, if◌then◌else◌}
+use Rattle.terms.specs.Terms.{over}
 use Rattle.answers.specs.declared.Refusal.TheVariants.{TooManyRows, NoRoom}
 use Rattle.listing.specs.declared.Listing.{Listing}
 use Rattle.listing.specs.declared.Listed.{Listed}

@@ -1,6 +1,6 @@
 -- What the checks of a span decide, and where an identifier lies.
+use Rattle.std.specs.Prelude.{if◌then◌else◌}
 use Rattle.std.proofs.Common.{◌≡◌, ℕ, ◌+◌, ◌<◌, ◌≤◌, Bool, true, false, ◌&&◌, ◌||◌, eqb, ltb, List, length, refl, arith, ltb-false, ltb-true, le-ltb}
-use Rattle.terms.specs.Terms.{if◌then◌else◌}
 use Rattle.answers.specs.declared.Span.{Span}
 use Rattle.answers.specs.declared.Verdict.{Verdict}
 use Rattle.answers.specs.declared.Verdict.TheVariants.{Accepted, Refused}

@@ -1,7 +1,8 @@
 -- An identifier whose letters are of one case is accepted where each byte may stand behind the one before it.
+use Rattle.std.specs.Prelude.{if◌then◌else◌}
 use Rattle.std.proofs.Common.{◌≡◌, ℕ, zero, suc, ◌+◌, ◌-◌, ◌%◌, ◌^◌, ◌<◌, ◌≤◌, min, Bool, true, false, not, ◌&&◌, ◌||◌, eqb, ltb, ◌⊎◌, List, [], length, get_or, sym, refl, ap, ◌∙◌, inl, inr, arith, ltb-false, ltb-true, lt-ltb, eq-eqb, ne_eqb, eqb-true}
 use borrow.Author.Tests.{eqb-false, not-true, not-false}
-use Rattle.terms.specs.Terms.{if◌then◌else◌, said, within, bit}
+use Rattle.terms.specs.Terms.{said, within, bit}
 use Rattle.terms.proofs.TestLaws.{and_both, and_lacks, or_either, within_true, within_yes, within_above, within_below, clash}
 use Rattle.terms.proofs.TableLaws.{in_match, word, is_key, is_keys, up, down}
 use Rattle.answers.specs.declared.Position.{Position}

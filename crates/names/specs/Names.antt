@@ -1,6 +1,6 @@
 -- 01, "Identifiers": the span's checks, its parts as `Parts` of the room `parts` says, and what is handed back.
-use Rattle.std.specs.Prelude.{ℕ, ◌+◌, ◌-◌, Bool, ◌&&◌, ◌||◌, List, [], ◌∷◌, length, take, drop, ◌==◌, nat_lt}
-use Rattle.terms.specs.Terms.{if◌then◌else◌, within}
+use Rattle.std.specs.Prelude.{ℕ, ◌+◌, ◌-◌, Bool, ◌&&◌, ◌||◌, List, [], ◌∷◌, length, take, drop, ◌==◌, nat_lt, if◌then◌else◌}
+use Rattle.terms.specs.Terms.{within}
 use Rattle.answers.specs.declared.Place.{Place}
 use Rattle.answers.specs.declared.Span.{Span}
 use Rattle.answers.specs.declared.Numbers.{Numbers}

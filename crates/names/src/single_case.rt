@@ -1,6 +1,6 @@
 //! Identifiers whose letters are all of one case, as most are: sixteen bytes at a time, with no branch on any of them.
-ghost use Rattle.std.specs.Prelude.{◌≡◌, ◌+◌, ◌-◌, ◌<◌, ◌≤◌, min, true, not, ◌&&◌, ltb, length, nat_lt};
-ghost use Rattle.terms.specs.Terms.{if◌then◌else◌, bit, within};
+ghost use Rattle.std.specs.Prelude.{◌≡◌, ◌+◌, ◌-◌, ◌<◌, ◌≤◌, min, true, not, ◌&&◌, ltb, length, nat_lt, if◌then◌else◌};
+ghost use Rattle.terms.specs.Terms.{bit, within};
 ghost use Rattle.answers.specs.declared.Verdict.TheVariants.{Accepted};
 ghost use Rattle.answers.specs.declared.Position.{Position};
 ghost use Rattle.chars.specs.View.{chars_from};

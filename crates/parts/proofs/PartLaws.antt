@@ -1,4 +1,5 @@
 -- The parts' turns, and the bytes that a part passes over at once.
+use Rattle.std.specs.Prelude.{if◌then◌else◌}
 use Prim.Native.Nat.{ℕ, ◌≤◌, ◌<◌}
 use mathlib.Core.Path.{◌≡◌, refl, sym, ap, ◌∙◌}
 use mathlib.Core.Bool.{Bool, true, false, not, ◌||◌}
@@ -6,7 +7,7 @@ use mathlib.Core.List.{List}
 use native.Mathlib.Omega.{arith}
 use lib.Dec.{leb, eqb}
 use borrow.Author.Tests.{le-leb, lt-leb, leb-true, leb-false, eqb-true}
-use Rattle.terms.specs.Terms.{if◌then◌else◌, said, within}
+use Rattle.terms.specs.Terms.{said, within}
 use Rattle.terms.proofs.TestLaws.{clash}
 use Rattle.terms.proofs.BelowLaws.{all_below}
 use Rattle.answers.specs.declared.Place.{Place}
@@ -82,10 +83,10 @@ number_of Part.Lower = 4
 part_of : ℕ → Part
 part_of n =
     if eqb n 0 then Part.First
-    else if eqb n 1 then Part.Next
-    else if eqb n 2 then Part.Digits
-    else if eqb n 3 then Part.Upper
-    else Part.Lower
+    else (if eqb n 1 then Part.Next
+    else (if eqb n 2 then Part.Digits
+    else (if eqb n 3 then Part.Upper
+    else Part.Lower)))
 
 part_back : (a : Part) → part_of (number_of a) ≡ a
 unfolding part_of number_of

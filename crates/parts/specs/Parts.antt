@@ -1,6 +1,6 @@
 -- 01, "Identifiers": the parts between `-`.
-use Rattle.std.specs.Prelude.{ℕ, List, [], ◌∷◌, leb}
-use Rattle.terms.specs.Terms.{if◌then◌else◌, Row, ◌to◌is◌, said}
+use Rattle.std.specs.Prelude.{ℕ, List, [], ◌∷◌, leb, if◌then◌else◌}
+use Rattle.terms.specs.Terms.{Row, ◌to◌is◌, said}
 use Rattle.answers.specs.declared.Place.{Place}
 use Rattle.answers.specs.declared.Position.{Position}
 use Rattle.answers.specs.declared.Verdict.{Verdict}

@@ -1,4 +1,5 @@
 -- A list is accepted exactly if it is a load order; no first fault lies past index n; and what has a load order has no chain from an item to itself.
+use Rattle.std.specs.Prelude.{if◌then◌else◌}
 use Prim.Native.Nat.{ℕ, zero, suc, ◌≤◌, ◌<◌}
 use mathlib.Core.Path.{◌≡◌, refl, sym, ◌∙◌}
 use mathlib.Core.Bool.{Bool, true, false, not, ◌&&◌, and-false}
@@ -9,7 +10,7 @@ use lib.ListN.{length, get_or, take}
 use lib.Seq.{take-suc, length-take-le, take_all, get_or-take}
 use lib.Dec.{eqb, leb, ltb}
 use borrow.Author.Tests.{eq-eqb, ne_eqb, eqb-true, eqb-false, lt-leb, leb-false, ltb-true, lt-ltb, not-false}
-use Rattle.terms.specs.Terms.{if◌then◌else◌, bit, count, member}
+use Rattle.terms.specs.Terms.{bit, count, member}
 use Rattle.terms.proofs.TestLaws.{and_both, or_neither, clash, fails}
 use Rattle.terms.proofs.FirstLaws.{first_le, none_before, first_is}
 use Rattle.terms.proofs.CountLaws.{bit_le, count_at, count_parts, member_at, at_member, member_counted}

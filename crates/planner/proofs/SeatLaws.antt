@@ -1,4 +1,5 @@
 -- The loops of `seat` and `first_fault`: what the table of seats says of a list, and what one more edge does to the first fault.
+use Rattle.std.specs.Prelude.{if◌then◌else◌}
 use Prim.Native.Nat.{ℕ, ◌+◌, ◌≤◌, ◌<◌}
 use mathlib.Core.Path.{◌≡◌, refl, sym, ap, ◌∙◌}
 use mathlib.Core.Bool.{Bool, true, false, not, ◌&&◌, ◌||◌, or-true, or-false, or_assoc}
@@ -11,7 +12,7 @@ use lib.ListN.{length, get_or, set, take, length-set}
 use lib.Seq.{take-suc, length-take-le, get_or-set_same, get_or-set_other}
 use lib.Dec.{eqb, leb, ltb}
 use borrow.Author.Tests.{eq-eqb, ne_eqb, eqb-true, eqb-false, le-leb, lt-leb, leb-true, leb-false, lt-ltb, ltb-true}
-use Rattle.terms.specs.Terms.{if◌then◌else◌, bit, count, member}
+use Rattle.terms.specs.Terms.{bit, count, member}
 use Rattle.terms.proofs.TestLaws.{and_both, clash, fails}
 use Rattle.terms.proofs.FirstLaws.{first_le, first_passes, none_before, first_is, first_cong}
 use Rattle.terms.proofs.CountLaws.{count_snoc}

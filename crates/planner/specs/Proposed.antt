@@ -1,6 +1,6 @@
 -- 02, §6, "Load orders from headquarters": what a load order is, the check of a list of words that somebody proposes as one, and what our own proposer offers.
-use Rattle.std.specs.Prelude.{ℕ, Bool, not, ◌&&◌, ◌||◌, List, length, get_or, take, eqb, leb}
-use Rattle.terms.specs.Terms.{if◌then◌else◌, first, member}
+use Rattle.std.specs.Prelude.{ℕ, Bool, not, ◌&&◌, ◌||◌, List, length, get_or, take, eqb, leb, if◌then◌else◌}
+use Rattle.terms.specs.Terms.{first, member}
 use Rattle.answers.specs.declared.Verdict.{Verdict}
 use Rattle.answers.specs.declared.Verdict.TheVariants.{Accepted, Refused}
 use Rattle.answers.specs.declared.Refusal.TheVariants.{NotAnOrder}

@@ -1,6 +1,5 @@
 //! The check of a list against edges: each edge is looked at once.
-ghost use Rattle.std.specs.Prelude.{◌≡◌, ◌&&◌, ◌≤◌, leb, ltb};
-ghost use Rattle.terms.specs.Terms.{if◌then◌else◌};
+ghost use Rattle.std.specs.Prelude.{◌≡◌, ◌&&◌, ◌≤◌, leb, ltb, if◌then◌else◌};
 ghost use Rattle.graph.specs.Order.{edges};
 ghost use Rattle.clerk.specs.inner.State.{Rows};
 ghost use Rattle.planner.specs.Proposed.{first_fault, list_verdict};

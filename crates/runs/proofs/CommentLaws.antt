@@ -1,4 +1,5 @@
 -- A comment's turns, the bytes that it passes over at once, and where it ends.
+use Rattle.std.specs.Prelude.{if◌then◌else◌}
 use Prim.Native.Nat.{ℕ, ◌+◌, ◌-◌, ◌≤◌}
 use mathlib.Core.Path.{◌≡◌, refl, ◌∙◌}
 use mathlib.Core.Bool.{Bool, true, false}
@@ -8,7 +9,6 @@ use native.Mathlib.Omega.{arith}
 use lib.ListN.{length}
 use lib.Dec.{eqb}
 use borrow.Author.Tests.{eq-eqb, ne_eqb, eqb-false}
-use Rattle.terms.specs.Terms.{if◌then◌else◌}
 use Rattle.answers.specs.declared.Place.{Place}
 use Rattle.answers.specs.declared.Position.{Position}
 use Rattle.answers.specs.declared.Ill.{Ill as Sequence}
@@ -120,7 +120,7 @@ seen_depth : (d c : ℕ) → depth_of (seen d c) ≡ d
 unfolding seen depth_of
 seen_depth d c = go (eqb c 47) (eqb c 42)
   where
-    go : (t u : Bool) → depth_of (if t then Block.Slash d else if u then Block.Star d else Block.Other d) ≡ d
+    go : (t u : Bool) → depth_of (if t then Block.Slash d else (if u then Block.Star d else Block.Other d)) ≡ d
     go true u = refl
     go false true = refl
     go false false = refl

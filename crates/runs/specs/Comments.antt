@@ -1,6 +1,6 @@
 -- 01, "Tokens": runs, and comments. Each rule goes over the characters from a place on, and answers the place where the rest begins, or a refusal.
-use Rattle.std.specs.Prelude.{ℕ, ◌+◌, ◌-◌, Bool, ◌||◌, eqb}
-use Rattle.terms.specs.Terms.{if◌then◌else◌, within}
+use Rattle.std.specs.Prelude.{ℕ, ◌+◌, ◌-◌, Bool, ◌||◌, eqb, if◌then◌else◌}
+use Rattle.terms.specs.Terms.{within}
 use Rattle.answers.specs.declared.Position.{Position}
 use Rattle.answers.specs.declared.Refusal.TheVariants.{IllFormed, UnterminatedComment}
 use Rattle.chars.specs.View.{Chars, end, ill, char, place_of}
@@ -30,7 +30,7 @@ line_comment (char p c v) = if eqb c 10 then To (place_of v) else line_comment v
 
 -- A character of a block comment that completes no pair.
 unfoldable pub seen : ℕ → ℕ → Block
-seen depth c = if eqb c 47 then Block.Slash depth else if eqb c 42 then Block.Star depth else Block.Other depth
+seen depth c = if eqb c 47 then Block.Slash depth else (if eqb c 42 then Block.Star depth else Block.Other depth)
 
 -- What a character does: `/*` goes one deeper, `*/` one up, and out of the comment where that was the outermost.
 unfoldable pub block_turn : Block → ℕ → Block

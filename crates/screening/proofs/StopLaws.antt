@@ -1,11 +1,12 @@
 -- A search by 64 places at a time.
+use Rattle.std.specs.Prelude.{if◌then◌else◌}
 use Prim.Native.Nat.{ℕ, ◌+◌, ◌-◌, ◌≤◌, ◌<◌, min}
 use mathlib.Core.Path.{◌≡◌, refl, ◌∙◌}
 use mathlib.Core.Bool.{Bool, true, false}
 use mathlib.Core.Logic.{◌⊎◌, inl, inr}
 use native.Mathlib.Omega.{arith}
 use native.Mathlib.Nat.{add-zero}
-use Rattle.terms.specs.Terms.{if◌then◌else◌, first}
+use Rattle.terms.specs.Terms.{first}
 use Rattle.terms.proofs.FirstLaws.{first_miss, first_hit, first_end, first_skip, first_le, first_from, first_passes, none_before}
 
 module _ (test : ℕ → Bool) where

@@ -1,6 +1,6 @@
 //! Plain text: bytes that are characters by themselves and that screening lets pass, passed over 64 at a time.
-ghost use Rattle.std.specs.Prelude.{◌≡◌, not, ◌+◌, ◌-◌, ◌≤◌, length};
-ghost use Rattle.terms.specs.Terms.{if◌then◌else◌, first};
+ghost use Rattle.std.specs.Prelude.{◌≡◌, not, ◌+◌, ◌-◌, ◌≤◌, length, if◌then◌else◌};
+ghost use Rattle.terms.specs.Terms.{first};
 ghost use Rattle.screening.specs.inner.Plain.{is_plain, halts, halts_at, plain_end};
 
 use answers::Place;

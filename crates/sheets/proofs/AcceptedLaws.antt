@@ -1,4 +1,5 @@
 -- What a sheet that passes every check has, and the tables that `resolve` then leaves.
+use Rattle.std.specs.Prelude.{if◌then◌else◌}
 use Prim.Native.Nat.{ℕ, ◌≤◌, ◌<◌}
 use mathlib.Core.Path.{◌≡◌, refl}
 use mathlib.Core.Bool.{Bool, true, false}
@@ -8,7 +9,6 @@ use lib.ListN.{length, take, drop}
 use lib.Seq.{take_at}
 use lib.Dec.{ltb}
 use borrow.Author.Tests.{le-leb, ltb-false, eqb-false}
-use Rattle.terms.specs.Terms.{if◌then◌else◌}
 use Rattle.terms.proofs.FirstLaws.{first_le, first_none}
 use Rattle.answers.specs.declared.Verdict.{Verdict}
 use Rattle.answers.specs.declared.Verdict.TheVariants.{Accepted, Refused}

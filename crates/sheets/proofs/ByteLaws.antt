@@ -1,4 +1,5 @@
 -- What the search for a byte needs: bytes that are passed over, one by one and sixteen at a time.
+use Rattle.std.specs.Prelude.{if◌then◌else◌}
 use Prim.Native.Nat.{ℕ, ◌+◌, ◌-◌, ◌≤◌, ◌<◌}
 use mathlib.Core.Path.{◌≡◌, refl, sym, ◌∙◌}
 use mathlib.Core.Bool.{Bool, true, false}
@@ -8,7 +9,6 @@ use native.Mathlib.Nat.{eq-or-lt_of_le}
 use native.Mathlib.Omega.{arith}
 use lib.ListN.{length, get_or}
 use lib.Dec.{eqb}
-use Rattle.terms.specs.Terms.{if◌then◌else◌}
 use Rattle.terms.proofs.FirstLaws.{first_skip}
 use Rattle.sheets.specs.inner.Bytes.{holds, byte_from}
 

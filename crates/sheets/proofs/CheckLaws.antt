@@ -1,4 +1,5 @@
 -- What a loop over a sheet's rows needs, and what a sheet that passes the checks of its words has.
+use Rattle.std.specs.Prelude.{if◌then◌else◌}
 use Prim.Native.Nat.{ℕ, zero, suc, ◌+◌, ◌-◌, ◌*◌, ◌≤◌, ◌<◌, zero-le}
 use mathlib.Core.Path.{◌≡◌, refl, ◌∙◌}
 use mathlib.Core.Bool.{Bool, true, false, ◌&&◌}
@@ -8,7 +9,7 @@ use native.Mathlib.Omega.{arith}
 use lib.ListN.{length, get_or}
 use lib.Dec.{eqb, leb}
 use borrow.Author.Tests.{eq-eqb, ne_eqb, eqb-true, leb-true, ltb-false}
-use Rattle.terms.specs.Terms.{if◌then◌else◌, first}
+use Rattle.terms.specs.Terms.{first}
 use Rattle.terms.proofs.TestLaws.{and_both}
 use Rattle.terms.proofs.FirstLaws.{first_none}
 use Rattle.answers.specs.declared.Verdict.TheVariants.{Accepted}

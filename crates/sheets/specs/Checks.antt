@@ -1,6 +1,6 @@
 -- 01, "Dependency sheet": the checks of a sheet, in their order: 1, under five words 26, 27, other faults of shape or a name outside the slice 26, 28, 29.
-use Rattle.std.specs.Prelude.{ℕ, zero, suc, ◌+◌, ◌*◌, Bool, ◌&&◌, List, length, get_or, eqb, leb, ltb}
-use Rattle.terms.specs.Terms.{if◌then◌else◌, first, same_bytes}
+use Rattle.std.specs.Prelude.{ℕ, zero, suc, ◌+◌, ◌*◌, Bool, ◌&&◌, List, length, get_or, eqb, leb, ltb, if◌then◌else◌}
+use Rattle.terms.specs.Terms.{first, same_bytes}
 use Rattle.answers.specs.declared.Verdict.{Verdict}
 use Rattle.answers.specs.declared.Verdict.TheVariants.{Accepted, Refused}
 use Rattle.answers.specs.declared.Refusal.TheVariants.{MalformedSheet, TooManyItems, RepeatedName, ItemNotFound}

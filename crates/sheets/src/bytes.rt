@@ -1,6 +1,5 @@
 //! A byte looked for in bytes, sixteen at a time.
-ghost use Rattle.std.specs.Prelude.{◌≡◌, false, ℕ, ◌+◌, ◌-◌, ◌<◌, ◌≤◌, length, eqb};
-ghost use Rattle.terms.specs.Terms.{if◌then◌else◌};
+ghost use Rattle.std.specs.Prelude.{◌≡◌, false, ℕ, ◌+◌, ◌-◌, ◌<◌, ◌≤◌, length, eqb, if◌then◌else◌};
 ghost use Rattle.sheets.specs.inner.Bytes.{holds, byte_from};
 
 // 1 where the byte is x, else what was seen before.

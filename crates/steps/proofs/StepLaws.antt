@@ -1,4 +1,5 @@
 -- What a step's checks leave, and what next does with the token at a place.
+use Rattle.std.specs.Prelude.{if◌then◌else◌}
 use Prim.Native.Nat.{ℕ, ◌≤◌}
 use mathlib.Core.Path.{◌≡◌, refl, ap, ◌∙◌}
 use mathlib.Core.Bool.{Bool, true, false, ◌&&◌}
@@ -14,7 +15,6 @@ use Rattle.answers.specs.declared.Verdict.{Verdict}
 use Rattle.answers.specs.declared.Verdict.TheVariants.{Accepted}
 use Rattle.answers.specs.Places.{place}
 use Rattle.answers.specs.Caps.{first_of, text_verdict}
-use Rattle.terms.specs.Terms.{if◌then◌else◌}
 use Rattle.terms.proofs.TestLaws.{and_both}
 use Rattle.chars.specs.Utf8.{byte_at}
 use Rattle.chars.proofs.Utf8Laws.{byte_in}

@@ -1,4 +1,5 @@
 -- The check of the gathered bytes as they come (`specs/inner/Checking.antt`): it says of them what their reading says, and a whole character passes it.
+use Rattle.std.specs.Prelude.{if◌then◌else◌}
 use Prim.Native.Nat.{ℕ, zero, suc, ◌≤◌, ◌<◌, ◌+◌, ◌-◌}
 use mathlib.Core.Path.{◌≡◌, refl, sym, ap, ◌∙◌}
 use mathlib.Core.Bool.{Bool, true, false, ◌&&◌, ◌||◌}
@@ -10,7 +11,7 @@ use lib.Dec.{leb, eqb}
 use lib.ListN.{length, get_or, drop, replicate, length-append, length-replicate, drop_of_length-le}
 use lib.Seq.{drop-cons, drop_at}
 use borrow.Author.Tests.{leb-true, leb-false, eqb-false}
-use Rattle.terms.specs.Terms.{if◌then◌else◌, within}
+use Rattle.terms.specs.Terms.{within}
 use Rattle.terms.proofs.TestLaws.{within_true, within_below, within_above}
 use Rattle.terms.proofs.TableLaws.{split}
 use Rattle.answers.specs.Places.{place}

@@ -1,4 +1,5 @@
 -- One turn: what stands at a place, what holds of what a character does there, and how the walk comes on by it (`specs/inner/Walking.antt`).
+use Rattle.std.specs.Prelude.{if◌then◌else◌}
 use Prim.Native.Nat.{ℕ, ◌≤◌, ◌<◌, ◌+◌, ◌-◌, ◌*◌}
 use mathlib.Core.Path.{◌≡◌, refl, ◌∙◌}
 use mathlib.Core.Bool.{Bool, true, false, ◌||◌}
@@ -7,7 +8,6 @@ use native.Mathlib.Omega.{arith}
 use lib.Dec.{leb, ltb, eqb}
 use lib.ListN.{length, length-append}
 use borrow.Author.Tests.{leb-false, ltb-true, eqb-false}
-use Rattle.terms.specs.Terms.{if◌then◌else◌}
 use Rattle.answers.specs.declared.Place.{Place}
 use Rattle.answers.specs.declared.Refusal.{Refusal}
 use Rattle.answers.specs.Caps.{cap}
@@ -40,7 +40,7 @@ unfolding ascii_at
 ascii_stands s p b e l = go (leb (length s) p.0) refl (leb cap p.0) refl (eqb (byte_at s p) 13) refl e
   where
     go : (t : Bool) → leb (length s) p.0 ≡ t → (u : Bool) → leb cap p.0 ≡ u → (v : Bool) → eqb (byte_at s p) 13 ≡ v
-        → (if t || u then 0x80 else if v then 0x80 else byte_at s p) ≡ b → folded_at s p ≡ Char b (on_by 1 p)
+        → (if t || u then 0x80 else (if v then 0x80 else byte_at s p)) ≡ b → folded_at s p ≡ Char b (on_by 1 p)
     go true g u h v k e = absurd (omega arith)
     go false g true h v k e = absurd (omega arith)
     go false g false h true k e = absurd (omega arith)

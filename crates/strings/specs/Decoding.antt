@@ -1,6 +1,5 @@
 -- 01, "Strings": the value of a string that a span names, at the front of a lent buffer.
-use Rattle.std.specs.Prelude.{ℕ, ◌+◌, ◌-◌, ◌&&◌, List, [], ◌++◌, length, drop, leb, eqb}
-use Rattle.terms.specs.Terms.{if◌then◌else◌}
+use Rattle.std.specs.Prelude.{ℕ, ◌+◌, ◌-◌, ◌&&◌, List, [], ◌++◌, length, drop, leb, eqb, if◌then◌else◌}
 use Rattle.answers.specs.declared.Position.{Position}
 use Rattle.answers.specs.declared.Span.{Span}
 use Rattle.answers.specs.declared.Verdict.{Verdict}

@@ -1,6 +1,6 @@
 -- 01, "Strings": one walk over the characters behind the opening quote; then the gathered bytes are checked.
-use Rattle.std.specs.Prelude.{ℕ, ◌+◌, ◌*◌, Bool, true, false, ◌||◌, List, [], ◌∷◌, ◌++◌, length, leb, ltb, eqb}
-use Rattle.terms.specs.Terms.{if◌then◌else◌, Row, ◌to◌is◌, said}
+use Rattle.std.specs.Prelude.{ℕ, ◌+◌, ◌*◌, Bool, true, false, ◌||◌, List, [], ◌∷◌, ◌++◌, length, leb, ltb, eqb, if◌then◌else◌}
+use Rattle.terms.specs.Terms.{Row, ◌to◌is◌, said}
 use Rattle.answers.specs.declared.Place.{Place}
 use Rattle.answers.specs.declared.Position.{Position}
 use Rattle.answers.specs.declared.Refusal.{Refusal}
@@ -31,17 +31,17 @@ simple_of c = said simples 0 c
 unfoldable pub plain_turn : Place → ℕ → Turn
 plain_turn p c =
     if eqb c 0x22 then Close
-    else if eqb c 0x5C then On Escape Nothing
-    else if ltb c 0x20 || eqb c 0x7F then Fail (InvalidStringElement p c)
-    else On Plain (Whole c)
+    else (if eqb c 0x5C then On Escape Nothing
+    else (if ltb c 0x20 || eqb c 0x7F then Fail (InvalidStringElement p c)
+    else On Plain (Whole c)))
 
 -- Behind a backslash: `u`, the first of two hexadecimal digits, a simple escape; else 11.
 unfoldable pub escape_turn : Place → ℕ → Turn
 escape_turn p c =
     if eqb c 0x75 then On (Brace p) Nothing
-    else if ltb (to_hex c) 16 then On (Half (to_hex c)) Nothing
-    else if eqb (simple_of c) 0 then Fail (InvalidStringEscape p c)
-    else On Plain (Whole (simple_of c))
+    else (if ltb (to_hex c) 16 then On (Half (to_hex c)) Nothing
+    else (if eqb (simple_of c) 0 then Fail (InvalidStringEscape p c)
+    else On Plain (Whole (simple_of c))))
 
 -- The second of two hexadecimal digits; else 17.
 unfoldable pub half_turn : ℕ → Place → ℕ → Turn
@@ -59,10 +59,10 @@ first_turn u p c = if ltb (to_hex c) 16 then On (Number u p (to_hex c) false) No
 unfoldable pub number_turn : Place → Place → ℕ → Bool → Place → ℕ → Turn
 number_turn u d n lone p c =
     if eqb c 0x5F then On (Number u d n true) Nothing
-    else if ltb (to_hex c) 16 then (if leb (n * 16 + to_hex c) 0xFFFFFFFF then On (Number u d (n * 16 + to_hex c) false) Nothing else Fail (NumberTooBig p))
-    else if lone then Fail (LoneUnderscore d)
-    else if is_scalar n then (if eqb c 0x7D then On Plain (Whole n) else Fail (WantedChar p 0x7D))
-    else Fail (InvalidUnicodeValue u n)
+    else (if ltb (to_hex c) 16 then (if leb (n * 16 + to_hex c) 0xFFFFFFFF then On (Number u d (n * 16 + to_hex c) false) Nothing else Fail (NumberTooBig p))
+    else (if lone then Fail (LoneUnderscore d)
+    else (if is_scalar n then (if eqb c 0x7D then On Plain (Whole n) else Fail (WantedChar p 0x7D))
+    else Fail (InvalidUnicodeValue u n))))
 
 -- What one character does, by where in a string it stands.
 unfoldable pub turn_of : Inside → Place → ℕ → Turn

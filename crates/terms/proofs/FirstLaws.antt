@@ -1,5 +1,6 @@
 -- What a loop that searches needs of `first`: the whole search is the search from i on, for as long as nothing before i passed.
 -- The loop's invariant is `first test 0 n ≡ first test i (n - i)`; the laws are its start, its step, its hit and its end.
+use Rattle.std.specs.Prelude.{if◌then◌else◌}
 use Prim.Native.Nat.{ℕ, zero, suc, ◌+◌, ◌-◌, ◌≤◌, ◌<◌, zero-le}
 use mathlib.Core.Path.{◌≡◌, refl, ap₂, ◌∙◌}
 use mathlib.Core.Bool.{Bool, true, false}
@@ -7,7 +8,7 @@ use mathlib.Core.Logic.{◌⊎◌, inl, inr}
 use native.Mathlib.Nat.{eq-or-lt_of_le, le_refl}
 use native.Mathlib.Numerals.{add-one}
 use native.Mathlib.Omega.{arith}
-use Rattle.terms.specs.Terms.{if◌then◌else◌, first}
+use Rattle.terms.specs.Terms.{first}
 
 module _ (test : ℕ → Bool) where
   open_suc : (i m : ℕ) → first test i (suc m) ≡ (if test i then i else first test (suc i) m)

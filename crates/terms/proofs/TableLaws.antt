@@ -1,4 +1,5 @@
 -- A table's word on a whole range is computed, and holds of each number in it.
+use Rattle.std.specs.Prelude.{if◌then◌else◌}
 use Prim.Native.Nat.{ℕ, zero, suc, ◌≤◌, ◌<◌, ◌+◌, ◌-◌}
 use mathlib.Core.Path.{◌≡◌, refl, ◌∙◌}
 use mathlib.Core.Bool.{Bool, true, false, ◌&&◌, ◌||◌, false≢true}
@@ -8,7 +9,7 @@ use lib.Dec.{leb, ltb, eqb}
 use native.Mathlib.Omega.{arith}
 use types.Run.{OneOf}
 use borrow.Author.Tests.{leb-true, leb-false, ltb-true, eqb-true}
-use Rattle.terms.specs.Terms.{if◌then◌else◌, within, Row, ◌to◌is◌, said}
+use Rattle.terms.specs.Terms.{within, Row, ◌to◌is◌, said}
 use mathlib.Core.Logic.{⊎_elim, inl, inr}
 use Rattle.terms.proofs.TestLaws.{within_true, fails, within_yes, within_below, within_above, and_both, or_either}
 
@@ -30,10 +31,10 @@ unfoldable pub word : {A : Type 0} → List (List ℕ) → ℕ → ℕ → List 
 word kss low high [] other = some other
 word kss low high (a to b is v ∷ rows) other =
     if ltb high a then word kss low high rows other
-    else if ltb b low then word kss low high rows other
-    else if leb a low && leb high b then some v
-    else if eqb a b && is_keys a kss then word kss low high rows other
-    else none
+    else (if ltb b low then word kss low high rows other
+    else (if leb a low && leb high b then some v
+    else (if eqb a b && is_keys a kss then word kss low high rows other
+    else none)))
 
 -- a key of an arm is not what a number of the `_` arm is
 key_is : (k : ℕ) (ks : List ℕ) (x : ℕ) → is_key k ks ≡ true → x ≡ k → OneOf ks x
@@ -61,7 +62,7 @@ none_some e = let z : ◌≡◌ {A = ℕ} 0 1 = cc in omega arith
 -- one row of the walk: S is what the later rows say, and W the word that they have
 one : {A : Type 0} (kss : List (List ℕ)) (low high x a b : ℕ) → Rest (Unit {0}) kss x → low ≤ x → x ≤ high
     → (w v S : A) (W : Option A) (p q s t : Bool) → ltb high a ≡ p → ltb b low ≡ q → (leb a low && leb high b) ≡ s → (eqb a b && is_keys a kss) ≡ t
-    → (if p then W else if q then W else if s then some w else if t then W else none) ≡ some v → (W ≡ some v → S ≡ v)
+    → (if p then W else (if q then W else (if s then some w else (if t then W else none)))) ≡ some v → (W ≡ some v → S ≡ v)
     → (if within a b x then w else S) ≡ v
 one kss low high x a b r f g w v S W true q s t hp hq hs ht e ih =
     let h = ltb-true high a hp in rw (within_below a b x (omega arith)) (ih e)

@@ -1,13 +1,7 @@
--- The words that every other definition is written in: a choice, a range, a table of ranges, a search, a count, a comparison of bytes, a text as bytes, a write to the front of a buffer.
-use Rattle.std.specs.Prelude.{ℕ, zero, suc, ◌+◌, Bool, true, false, ◌&&◌, ◌||◌, List, [], ◌∷◌, ◌++◌, length, drop, leb, eqb}
+-- The words that every other definition is written in: a range, a table of ranges, a search, a count, a comparison of bytes, a text as bytes, a write to the front of a buffer.
+use Rattle.std.specs.Prelude.{ℕ, zero, suc, ◌+◌, Bool, true, false, ◌&&◌, ◌||◌, List, [], ◌∷◌, ◌++◌, length, drop, leb, eqb, if◌then◌else◌}
 use Prim.Native.Char.{code}
 use Prim.Native.String.{String, [] as none, ◌∷◌ as ◌then◌}
-
-infixr 3 if◌then◌else◌
--- The first where the test holds, the second where it does not.
-abbrev pub if◌then◌else◌ : {A : Type 0} → Bool → A → A → A
-if true then a else b = a
-if false then a else b = b
 
 -- x is one of low, …, high.
 unfoldable pub within : ℕ → ℕ → ℕ → Bool

@@ -1,10 +1,10 @@
 -- A settled rule says what the rule of the character says.
+use Rattle.std.specs.Prelude.{if◌then◌else◌}
 use Prim.Native.Nat.{ℕ}
 use mathlib.Core.Path.{◌≡◌, refl}
 use mathlib.Core.Bool.{Bool, true, false}
 use mathlib.Core.List.{List}
 use native.Mathlib.Omega.{arith}
-use Rattle.terms.specs.Terms.{if◌then◌else◌}
 use Rattle.answers.specs.declared.Place.{Place}
 use Rattle.classes.specs.Classes.{keylike_start}
 use Rattle.chars.specs.View.{Chars}

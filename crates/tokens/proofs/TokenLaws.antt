@@ -1,4 +1,5 @@
 -- The laws of one token, for the rooms above: it ends beyond its start and within the text, and it depends only on the text from its place on.
+use Rattle.std.specs.Prelude.{if◌then◌else◌}
 use Prim.Native.Nat.{ℕ, ◌≤◌, ◌<◌}
 use mathlib.Core.Path.{◌≡◌, refl, sym, ap, ◌∙◌}
 use mathlib.Core.Bool.{Bool, true, false}
@@ -6,7 +7,6 @@ use mathlib.Core.List.{List}
 use native.Mathlib.Omega.{arith}
 use lib.ListN.{length}
 use lib.Dec.{eqb}
-use Rattle.terms.specs.Terms.{if◌then◌else◌}
 use Rattle.answers.specs.declared.Place.{Place}
 use Rattle.answers.specs.declared.Ill.{Ill as Sequence}
 use Rattle.answers.specs.declared.Span.{Span}
@@ -96,8 +96,8 @@ module _ (s : List ℕ) (o : ℕ) (p m : Place) (l : m.0 ≤ length s) (k : Toke
     where
       by : (c : ℕ) (i : Place) → folded_at s m ≡ Char c i → (t u : Bool)
           → (if t then as_token Token.Comment (line_comment (folded_from s i))
-          else if u then as_token Token.Comment (block_comment (in_map o p) (Block.Other 1) (folded_from s i))
-          else As Token.Slash m) ≡ As k n → Ends s m n
+          else (if u then as_token Token.Comment (block_comment (in_map o p) (Block.Other 1) (folded_from s i))
+          else As Token.Slash m)) ≡ As k n → Ends s m n
       by c i h true u e = behind c i h Token.Comment _ (line_to s i) e
       by c i h false true e = behind c i h Token.Comment _ (block_to (in_map o p) (Block.Other 1) s i) e
       by c i h false false e = here Token.Slash m refl e

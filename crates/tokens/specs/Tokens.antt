@@ -1,6 +1,6 @@
 -- 01, "Tokens": one raw token. The first character calls for a rule; the rule says where the token ends, and of what kind it is.
-use Rattle.std.specs.Prelude.{ℕ, ◌-◌, List, [], ◌∷◌, take, drop, eqb}
-use Rattle.terms.specs.Terms.{if◌then◌else◌, Row, ◌to◌is◌, said}
+use Rattle.std.specs.Prelude.{ℕ, ◌-◌, List, [], ◌∷◌, take, drop, eqb, if◌then◌else◌}
+use Rattle.terms.specs.Terms.{Row, ◌to◌is◌, said}
 use Rattle.answers.specs.declared.Place.{Place}
 use Rattle.answers.specs.declared.Refusal.TheVariants.{IllFormed, Unexpected}
 use Rattle.answers.specs.Places.{in_map}
@@ -50,8 +50,8 @@ slash_rule o p (end n) = As Token.Slash n
 slash_rule o p (ill i) = Not (IllFormed i)
 slash_rule o p (char n c v) =
     if eqb c 47 then as_token Token.Comment (line_comment v)
-    else if eqb c 42 then as_token Token.Comment (block_comment (in_map o p) (Block.Other 1) v)
-    else As Token.Slash n
+    else (if eqb c 42 then as_token Token.Comment (block_comment (in_map o p) (Block.Other 1) v)
+    else As Token.Slash n)
 
 -- `-`: RArrow if `>` follows, else Minus.
 unfoldable pub dash_rule : Chars → Lexed

@@ -1,6 +1,5 @@
 -- 01, "Tokens": eat and expect on a plain place, the steps for a wanted kind.
-use Rattle.std.specs.Prelude.{ℕ, List, length, leb, eqb}
-use Rattle.terms.specs.Terms.{if◌then◌else◌}
+use Rattle.std.specs.Prelude.{ℕ, List, length, leb, eqb, if◌then◌else◌}
 use Rattle.answers.specs.declared.Place.{Place}
 use Rattle.answers.specs.declared.Position.{Position}
 use Rattle.answers.specs.declared.Verdict.{Verdict}

@@ -1,6 +1,5 @@
 -- Places where a byte reads as itself. `proofs/SingleLaws.antt` ties them to the view.
-use Rattle.std.specs.Prelude.{ℕ, Bool, false, not, ◌&&◌, ◌||◌, List, length, leb, ltb, eqb}
-use Rattle.terms.specs.Terms.{if◌then◌else◌}
+use Rattle.std.specs.Prelude.{ℕ, Bool, false, not, ◌&&◌, ◌||◌, List, length, leb, ltb, eqb, if◌then◌else◌}
 use Rattle.answers.specs.declared.Place.{Place}
 use Rattle.answers.specs.Caps.{cap}
 use Rattle.chars.specs.Utf8.{byte_at}

@@ -1,6 +1,6 @@
 -- Runs of keylike continuations, which the rules of words pass over at once: `keylike_ascii` (proofs/ShortLaws.antt) and `keylike_passes`
 -- (proofs/RunLaws.antt) tie them to the classes and to the view.
-use Rattle.terms.specs.Terms.{if◌then◌else◌}
+use Rattle.std.specs.Prelude.{if◌then◌else◌}
 use Rattle.answers.specs.declared.Place.{Place}
 use Rattle.chars.specs.declared.AsciiSet.{AsciiSet}
 use Rattle.chars.specs.View.{Chars, end, ill, char}

@@ -1,7 +1,7 @@
 -- What the walk over a text's tokens leaves: the count of its rows, and as many as there is room for; and what is then written to the table.
 -- `staged_tabled` in proofs/StageLaws.antt ties both to `tabled`.
-use Rattle.std.specs.Prelude.{ℕ, ◌+◌, ◌*◌, ◌≤◌, ◌≡◌, Bool, true, List, ◌++◌, length, take, drop, leb}
-use Rattle.terms.specs.Terms.{if◌then◌else◌, over}
+use Rattle.std.specs.Prelude.{ℕ, ◌+◌, ◌*◌, ◌≤◌, ◌≡◌, Bool, true, List, ◌++◌, length, take, drop, leb, if◌then◌else◌}
+use Rattle.terms.specs.Terms.{over}
 use Rattle.answers.specs.declared.Refusal.TheVariants.{TooManyRows, NoRoom}
 use Rattle.listing.specs.declared.Listed.{Listed}
 use Rattle.listing.specs.declared.Listed.TheVariants.{Count, Refused}

@@ -1,6 +1,6 @@
 -- Identifiers whose letters are all of one case. `one_case_accepted` (proofs/OneCaseLaws.antt) ties it to the parts.
-use Rattle.std.specs.Prelude.{◌≡◌, ℕ, ◌+◌, ◌<◌, ◌≤◌, Bool, true, not, ◌&&◌, ◌||◌, List, ◌==◌, nat_lt, slice_index}
-use Rattle.terms.specs.Terms.{if◌then◌else◌, within}
+use Rattle.std.specs.Prelude.{◌≡◌, ℕ, ◌+◌, ◌<◌, ◌≤◌, Bool, true, not, ◌&&◌, ◌||◌, List, ◌==◌, nat_lt, slice_index, if◌then◌else◌}
+use Rattle.terms.specs.Terms.{within}
 
 -- Where the letters of a first letter's case begin.
 unfoldable pub case_of : ℕ → ℕ

@@ -1,6 +1,6 @@
 -- The edges of a sheet resolved into two tables that the caller lends, for the room above. `clerk` never hands tables that are too short.
-use Rattle.std.specs.Prelude.{ℕ, ◌≡◌, ◌&&◌, List, length, leb}
-use Rattle.terms.specs.Terms.{if◌then◌else◌, over}
+use Rattle.std.specs.Prelude.{ℕ, ◌≡◌, ◌&&◌, List, length, leb, if◌then◌else◌}
+use Rattle.terms.specs.Terms.{over}
 use Rattle.answers.specs.declared.Verdict.{Verdict}
 use Rattle.answers.specs.declared.Verdict.TheVariants.{Accepted, Refused}
 use Rattle.answers.specs.declared.Refusal.TheVariants.{NoRoom}

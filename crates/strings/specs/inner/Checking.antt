@@ -1,6 +1,6 @@
 -- The check of the gathered bytes as they come, by what is known of those so far. `checked` (proofs/CheckingLaws.antt) ties it to `judged`.
-use Rattle.std.specs.Prelude.{ℕ, ◌+◌, ◌-◌, ◌≤◌, ◌<◌, ◌≡◌, true, List, [], ◌∷◌, eqb}
-use Rattle.terms.specs.Terms.{if◌then◌else◌, within}
+use Rattle.std.specs.Prelude.{ℕ, ◌+◌, ◌-◌, ◌≤◌, ◌<◌, ◌≡◌, true, List, [], ◌∷◌, eqb, if◌then◌else◌}
+use Rattle.terms.specs.Terms.{within}
 use Rattle.chars.specs.Utf8.{lead_of, is_scalar}
 use Rattle.chars.specs.declared.Lead.{Lead}
 use Rattle.chars.specs.declared.Lead.TheVariants.{Alone, Two, Three, Four, Never}

@@ -1,6 +1,6 @@
 -- How the walk of `gather` comes from one place to another: by a turn, by the turns of an escape, or by a run of raw characters. All is said in the terms of `gather` itself.
-use Rattle.std.specs.Prelude.{ℕ, ◌+◌, ◌-◌, ◌≤◌, ◌<◌, ◌≡◌, Bool, not, ◌&&◌, ◌||◌, List, ◌++◌, length, get_or, take, drop, leb, eqb}
-use Rattle.terms.specs.Terms.{if◌then◌else◌, within, first}
+use Rattle.std.specs.Prelude.{ℕ, ◌+◌, ◌-◌, ◌≤◌, ◌<◌, ◌≡◌, Bool, not, ◌&&◌, ◌||◌, List, ◌++◌, length, get_or, take, drop, leb, eqb, if◌then◌else◌}
+use Rattle.terms.specs.Terms.{within, first}
 use Rattle.answers.specs.declared.Place.{Place}
 use Rattle.answers.specs.declared.Refusal.TheVariants.{IllFormed, UnexpectedEof}
 use Rattle.answers.specs.Places.{in_map}
@@ -23,8 +23,8 @@ use Rattle.strings.specs.inner.Checking.{feeds, pass, Fair, Proper}
 unfoldable pub ascii_at : List ℕ → Place → ℕ
 ascii_at s p =
     if leb (length s) p.0 || leb cap p.0 then 0x80
-    else if eqb (byte_at s p) 13 then 0x80
-    else byte_at s p
+    else (if eqb (byte_at s p) 13 then 0x80
+    else byte_at s p)
 
 -- The character at a place where a string cannot end: else 13, or 3. `expected_stands` and `expected_fails` (proofs/TurnLaws.antt) tie it to `gather`.
 unfoldable pub expected_of : ℕ → Place → Read → Expected

@@ -1,6 +1,5 @@
 -- The rule of a first character with its class asked at once, so that a word is one rule. `settled_same` (proofs/SettledLaws.antt) ties it to `lexed_by`.
-use Rattle.std.specs.Prelude.{ℕ}
-use Rattle.terms.specs.Terms.{if◌then◌else◌}
+use Rattle.std.specs.Prelude.{ℕ, if◌then◌else◌}
 use Rattle.classes.specs.Classes.{keylike_start}
 use Rattle.tokens.specs.declared.Rule.{Rule}
 use Rattle.tokens.specs.declared.Rule.TheVariants.{Blanks, Slash, Dash, Percent, Quote, Digits, Word, Mark, Classed}

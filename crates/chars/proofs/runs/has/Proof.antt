@@ -1,11 +1,11 @@
 -- The bit at b modulo 64 of the half that has b is the bit that `in_set` names; from 0x80 on both say no.
+use Rattle.std.specs.Prelude.{if◌then◌else◌}
 use Prim.Native.Nat.{ℕ, ◌-◌, ◌/◌, ◌%◌, ◌^◌, ◌<◌}
 use mathlib.Core.Path.{◌≡◌, refl}
 use mathlib.Core.Bool.{Bool, true, false}
 use native.Mathlib.Omega.{arith}
 use lib.Dec.{ltb, eqb}
 use borrow.Author.Tests.{lt-ltb, le-ltb, ltb-true, ltb-false}
-use Rattle.terms.specs.Terms.{if◌then◌else◌}
 use Rattle.chars.specs.declared.AsciiSet.{AsciiSet}
 use Rattle.chars.specs.inner.Runs.{in_set}
 use borrow.Author.Rules.{rules}
@@ -19,7 +19,7 @@ bit set b h = go (ltb b 64) refl
   where
     go : (t : Bool) → ltb b 64 ≡ t
         → eqb ((if t then set.low else set.high) / 2 ^ (b % 64) % 2) 1
-        ≡ (if t then eqb (set.low / 2 ^ b % 2) 1 else if ltb b 128 then eqb (set.high / 2 ^ (b - 64) % 2) 1 else false)
+        ≡ (if t then eqb (set.low / 2 ^ b % 2) 1 else (if ltb b 128 then eqb (set.high / 2 ^ (b - 64) % 2) 1 else false))
     go true e =
         let z = ltb-true b 64 e in
         let m : b % 64 ≡ b = omega arith in
