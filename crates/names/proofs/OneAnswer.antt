@@ -20,13 +20,13 @@ module _ {M : Type 1} {𝓤 : Ura M} (𝓛 : Logic 𝓤) (mem : Memory → SProp
   validate_explicit_id_one κs a g z z' e e' = agree 𝓤
 
   -- the part's bytes, and the three numbers
-  pub parse-id-one :
+  pub parse_id_one :
       OneOutcome 𝓤 parse_id.ended (λ κs. List ℕ × List ℕ) (λ κs z e. (z.now, e.1.1.1.0.now))
       (parse_id.clauses 𝓛 mem run)
-  parse-id-one κs a g z z' e e' = agree 𝓤
+  parse_id_one κs a g z z' e e' = agree 𝓤
 
   -- the same
-  pub parse-explicit-id-one :
+  pub parse_explicit_id_one :
       OneOutcome 𝓤 parse_explicit_id.ended (λ κs. List ℕ × List ℕ) (λ κs z e. (z.now, e.1.1.1.0.now))
       (parse_explicit_id.clauses 𝓛 mem run)
-  parse-explicit-id-one κs a g z z' e e' = agree 𝓤
+  parse_explicit_id_one κs a g z z' e e' = agree 𝓤
