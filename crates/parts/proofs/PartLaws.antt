@@ -72,6 +72,14 @@ module _ (q : Position) (e : Place) (part : Part) (s : List ℕ) (p : Place) whe
       unfolding stepped
       parts_on next h = parts_char c n g ∙ rw h
 
+      pub parts_empty : step_by part (letter_of c) ≡ Step.Empty → parts_from q e part (chars_from s p) ≡ Refused (Refusal.IdPartEmpty q)
+      unfolding stepped
+      parts_empty h = parts_char c n g ∙ rw h
+
+      pub parts_bad : step_by part (letter_of c) ≡ Step.Bad → parts_from q e part (chars_from s p) ≡ Refused (Refusal.InvalidCharInId q c)
+      unfolding stepped
+      parts_bad h = parts_char c n g ∙ rw h
+
 -- parts told apart by a number
 number_of : Part → ℕ
 number_of Part.First = 0
