@@ -1,9 +1,10 @@
 #!/usr/bin/env python3
-"""Each public function has at least two wrong edits that its contract rules out, and each edit fits. Prints what is missing; exit 1 then.
+"""Each public function has at least two wrong edits that its contract rules out, and each edit fits; each function of a host has at least
+two wrong answers in the table of the room `review`, and a theorem there that its contract bars them. Prints what is missing; exit 1 then.
 
 An edit of crates/NAME/must-fail counts for a function if it changes that function, one of the same crate that it calls, or a definition of
 the same crate that one of their contracts cites. The functions that docs/EXCEPTIONS.md names, whose contracts are no equations, are left
-out. With -v it prints each function with its edits.
+out. With -v it prints each function with its edits, or its number of wrong answers.
 """
 import re
 import sys
@@ -11,6 +12,8 @@ import sys
 from repository import CRATES, TOP, changes, is_library, misfits, public
 
 FEWEST = 2
+TABLE = CRATES / "review/proofs/Wrong.antt"
+THEOREMS = CRATES / "review/proofs/Barred.antt"
 
 CODE = re.compile(r"^( *)(?:pub(?:\(crate\))? )?(?:extern \"C\" )?(?:fn|const) (\w+)")
 DEFINITION = re.compile(r"^()(?:(?:unfoldable|abbrev) )?pub (?:record |data )?(\S+)")
@@ -78,7 +81,8 @@ def counts(crate, edits):
         yield function, sorted(set().union(*(wrong.get(piece, set()) for piece in reached)))
 
 
-def main():
+def edited(verbose):
+    """What is missing of the edits, and how many functions have theirs."""
     aside = (TOP / "docs/EXCEPTIONS.md").read_text(encoding="utf-8")
     functions, bad = 0, []
     for crate in sorted(CRATES.iterdir()):
@@ -94,9 +98,36 @@ def main():
             functions += 1
             if len(ruled_out) < FEWEST:
                 bad.append(f"{crate.name}::{function} has {len(ruled_out)} wrong edits: {', '.join(ruled_out) or 'none'}")
-            if "-v" in sys.argv:
+            if verbose:
                 print(f"{crate.name}::{function}: {', '.join(ruled_out)}")
-    print("\n".join(bad) or f"must-fail: each of {functions} public functions has at least {FEWEST} wrong edits")
+    return bad, functions
+
+
+def answered(verbose):
+    """What is missing of the wrong answers, and how many there are. A row of the table starts with the call: a host's function without
+    `witbox_`; `opening` stands for `open`, a word that antt reserves."""
+    rows = re.findall(r"^ +(?:∷ )?\(([a-z_]+) .* never ", TABLE.read_text(encoding="utf-8"), re.M)
+    theorems = re.findall(r"^  pub ([a-z_]+)_bars : Bars (\w+)\.ended", THEOREMS.read_text(encoding="utf-8"), re.M)
+    bad = []
+    for function in public(CRATES / "witbox"):
+        name = function.removeprefix("witbox_")
+        found = rows.count("opening" if name == "open" else name)
+        if found < FEWEST:
+            bad.append(f"{TABLE.relative_to(TOP)} has {found} wrong answers of {function}")
+        if (name, function) not in theorems:
+            bad.append(f"{THEOREMS.relative_to(TOP)} has no theorem {name}_bars of {function}")
+        if verbose:
+            print(f"{function}: {found} wrong answers")
+    return bad, len(rows)
+
+
+def main():
+    verbose = "-v" in sys.argv
+    without_edits, functions = edited(verbose)
+    without_answers, answers = answered(verbose)
+    bad = without_edits + without_answers
+    good = f"must-fail: each of {functions} public functions has at least {FEWEST} wrong edits; {answers} wrong answers of hosts' functions are barred"
+    print("\n".join(bad) or good)
     sys.exit(bool(bad))
 
 
