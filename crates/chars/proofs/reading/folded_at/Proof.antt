@@ -1,4 +1,4 @@
--- A byte that reads as itself is one character, by `single-stands`; any other place is left to `any_folded_at`.
+-- A byte that reads as itself is one character, by `single_stands`; any other place is left to `any_folded_at`.
 use mathlib.Core.Path.{◌≡◌, sym, ◌∙◌}
 use mathlib.Core.Bool.{true}
 use native.Mathlib.Omega.{arith}

@@ -1,4 +1,4 @@
--- The three bytes behind the first pass the test of `char_by` or not; where they pass, `four-in` bounds all four, so that no difference or sum wraps.
+-- The three bytes behind the first pass the test of `char_by` or not; where they pass, `four_in` bounds all four, so that no difference or sum wraps.
 use mathlib.Core.Path.{sym, ◌∙◌}
 use native.Mathlib.Omega.{arith}
 use Rattle.chars.specs.Utf8.{char_by}

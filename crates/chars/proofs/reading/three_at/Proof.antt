@@ -1,4 +1,4 @@
--- The two bytes behind the first pass the test of `char_by` or not; where they pass, `three-in` bounds all three, so that no difference or sum wraps.
+-- The two bytes behind the first pass the test of `char_by` or not; where they pass, `three_in` bounds all three, so that no difference or sum wraps.
 use mathlib.Core.Path.{sym, ◌∙◌}
 use native.Mathlib.Omega.{arith}
 use Rattle.chars.specs.Utf8.{char_by}

@@ -1,4 +1,4 @@
--- Up to U+02C1 the short rule answers, which agrees with the list there by `continue-short`; above, the search answers.
+-- Up to U+02C1 the short rule answers, which agrees with the list there by `continue_short`; above, the search answers.
 use mathlib.Core.Path.{sym, ◌∙◌}
 use Rattle.classes.proofs.ShortLaws.{continue_short}
 use borrow.Author.Rules.{rules}

@@ -1,4 +1,4 @@
--- No character and no room answer 0; else the tests find the size, and the bytes stored one by one are those of `encode`, by `encoded-by`.
+-- No character and no room answer 0; else the tests find the size, and the bytes stored one by one are those of `encode`, by `encoded_by`.
 use Prim.Native.Nat.{ℕ, ◌≤◌}
 use mathlib.Core.Path.{◌≡◌, sym, ◌∙◌}
 use mathlib.Core.Bool.{true}

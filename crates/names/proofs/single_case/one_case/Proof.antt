@@ -1,4 +1,4 @@
--- Behind the tests the first byte is a letter of its case, the last is no `-`, and each byte may follow the one before (`one-case-accepted`).
+-- Behind the tests the first byte is a letter of its case, the last is no `-`, and each byte may follow the one before (`one_case_accepted`).
 use Rattle.std.proofs.Common.{◌≤◌, arith, rules}
 use mathlib.Core.Bool.{false≢true}
 use Rattle.names.proofs.OneCaseLaws.{case_small, one_case_accepted}

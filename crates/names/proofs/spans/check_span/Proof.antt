@@ -1,4 +1,4 @@
--- Three tests refuse a span that does not lie in the text, as `span_verdict` has them; of one that does, the two cuts decide (`span-cuts`).
+-- Three tests refuse a span that does not lie in the text, as `span_verdict` has them; of one that does, the two cuts decide (`span_cuts`).
 use Rattle.std.proofs.Common.{rules, le-ltb, lt-ltb}
 use Rattle.names.specs.Names.{span_verdict}
 use Rattle.names.proofs.NameLaws.{Lies, span_cuts}

@@ -1,4 +1,4 @@
--- The checks are those of `explicit_verdict`, in its order: the first that refuses is the answer, and behind them the parts decide (`explicit-parts`).
+-- The checks are those of `explicit_verdict`, in its order: the first that refuses is the answer, and behind them the parts decide (`explicit_parts`).
 use Rattle.std.proofs.Common.{◌≡◌, length, sym, ◌∙◌, arith, rules}
 use Rattle.answers.specs.declared.Verdict.TheVariants.{Accepted}
 use Rattle.answers.specs.Caps.{first_of, text_verdict}

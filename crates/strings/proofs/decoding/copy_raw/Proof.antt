@@ -1,7 +1,7 @@
 -- The unmarked bytes before k stand in the buffer (`Copied`): a mark or the end answers, and any other byte is one more.
-use Prim.Native.Nat.{◌+◌, ◌-◌, ◌<◌}
+use Prim.Native.Nat.{ℕ, ◌+◌, ◌-◌, ◌<◌}
 use mathlib.Core.Path.{◌≡◌}
-use mathlib.Core.Bool.{false}
+use mathlib.Core.Bool.{true, false}
 use native.Mathlib.Omega.{arith}
 use lib.ListN.{length, get_or}
 use borrow.Author.Tests.{eq-eqb, ne_eqb}
@@ -17,6 +17,19 @@ invariant-loop text value₀ n start k₀ value k = Copied text (place start) n 
 
 abbrev decreases-loop : tie.decreases-loop-k
 decreases-loop text value₀ n start k₀ value k = length text - k
+
+-- a byte that is a mark, and one that is none
+is_quote : (b : ℕ) → b ≡ 34 → is_mark b ≡ true
+unfolding is_mark
+is_quote b e = rw (eq-eqb _ _ e)
+
+is_bare : (b : ℕ) → (b ≡ 34 → ⊥) → (b ≡ 92 → ⊥) → is_mark b ≡ false
+unfolding is_mark
+is_bare b q s = rw (ne_eqb _ _ q, ne_eqb _ _ s)
+
+is_escape : (b : ℕ) → (b ≡ 34 → ⊥) → b ≡ 92 → is_mark b ≡ true
+unfolding is_mark
+is_escape b q e = rw (ne_eqb _ _ q, eq-eqb _ _ e)
 
 -- the turn: the start; the buffer keeps its length
 abbrev Turn : Type 0
@@ -36,8 +49,7 @@ abbrev turn : Bare → Turn
 turn c = c.before.before.before.before
 
 bare : (c : Bare) → is_mark (get_or (top (turn c)).args.text.now (turn c).loop-k.k 0) ≡ false
-unfolding is_mark
-bare c = rw (ne_eqb _ _ c.if-b-eq34.false, ne_eqb _ _ c.if-b-eq92.false)
+bare c = is_bare _ (λ e. omega (arith, e)) (λ e. omega (arith, e))
 
 room : (c : Bare)
     → let t = turn c in
@@ -46,18 +58,10 @@ room c =
     let t : Turn = turn c in
     copied_next _ _ _ _ _ _ t.loop-k.invariant (top t).requires c.loop-k-test.true (bare c)
 
-returns : tie.Need-returns-then-b-eq34 invariant-loop decreases-loop
-unfolding is_mark
-returns c =
-    let in-turn = c.before.before in
-    copied_mark _ _ _ _ _ _ in-turn.loop-k.invariant in-turn.loop-k-test.true (rw (eq-eqb _ _ c.if-b-eq34.true))
-
 returns-2 : tie.Need-returns-then-b-eq92 invariant-loop decreases-loop
-unfolding is_mark
 returns-2 c =
     let in-turn = c.before.before.before in
-    copied_mark _ _ _ _ _ _ in-turn.loop-k.invariant in-turn.loop-k-test.true
-    (rw (ne_eqb _ _ c.if-b-eq34.false, eq-eqb _ _ c.if-b-eq92.true))
+    copied_mark _ _ _ _ _ _ in-turn.loop-k.invariant in-turn.loop-k-test.true (is_escape _ (λ e. omega (arith, e)) (omega arith))
 
 loop-again : tie.Need-loop-k-preserved invariant-loop decreases-loop
 loop-again c =
@@ -75,7 +79,7 @@ copy_raw_spec =
     (λ c. search rules)
     (λ c. search rules)
     (λ c. long c.before.before.before)
-    returns
+    (λ c. copied_mark _ _ _ _ _ _ c.before.before.loop-k.invariant c.before.before.loop-k-test.true (is_quote _ (omega arith)))
     (λ c. search rules)
     (λ c. long c.before.before.before.before)
     returns-2

@@ -1,4 +1,4 @@
--- Each thing that a turn adds is stored as its law says (`stored-none`, `stored_one`, `stored-whole`), and what is asked is that it has room.
+-- Each thing that a turn adds is stored as its law says (`stored_none`, `stored_one`, `stored_whole`), and what is asked is that it has room.
 use Prim.Native.Nat.{◌+◌, ◌≤◌}
 use native.Mathlib.Omega.{arith}
 use lib.ListN.{length}

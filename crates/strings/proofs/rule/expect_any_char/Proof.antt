@@ -1,4 +1,4 @@
--- One byte below 0x80 is the character, by `ascii-stands`; else what `folded_at` reads is a row of `expected_of`.
+-- One byte below 0x80 is the character, by `ascii_stands`; else what `folded_at` reads is a row of `expected_of`.
 use mathlib.Core.Path.{◌≡◌, sym}
 use native.Mathlib.Omega.{arith}
 use borrow.Author.Rules.{rules}

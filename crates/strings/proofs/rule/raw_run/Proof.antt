@@ -1,4 +1,4 @@
--- What lies between the start and k is raw characters: bare bytes by `raw-to`, and a character of several bytes by `raw-high`.
+-- What lies between the start and k is raw characters: bare bytes by `raw_to`, and a character of several bytes by `raw_high`.
 use Prim.Native.Nat.{ℕ, ◌-◌, ◌≤◌, min}
 use mathlib.Core.Path.{◌≡◌, sym, ◌∙◌}
 use mathlib.Core.List.{List}

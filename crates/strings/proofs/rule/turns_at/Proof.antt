@@ -1,4 +1,4 @@
--- The walk came here with nothing gathered, and one turn is what `went` says; the turn that adds, closes or refuses is the element, by `leads-too`.
+-- The walk came here with nothing gathered, and one turn is what `went` says; the turn that adds, closes or refuses is the element, by `leads_too`.
 use Prim.Native.Nat.{ℕ, ◌-◌}
 use mathlib.Core.Path.{◌≡◌, sym, ◌∙◌}
 use mathlib.Core.List.{List, []}
