@@ -21,6 +21,9 @@ const EISDIR: i32 = 21;
 
 const ENAMETOOLONG: i32 = 36;
 
+// Bytes that are no text.
+const EILSEQ: i32 = 84;
+
 // What reading answers: how many bytes came, 0 where it failed; and then the system's number for why, 0 where it has none.
 #[derive(Drop)]
 pub struct Filled {
@@ -70,6 +73,7 @@ fn explain(to: Stdout, name: &[u8], error: i32) {
         EISDIR => complain(to, name, b"a directory, where a file is wanted"),
         EACCES => complain(to, name, b"may not be read"),
         ENAMETOOLONG => complain(to, name, b"too long for the name of a file"),
+        EILSEQ => complain(to, name, b"cannot be opened: its name is not UTF-8"),
         _ => complain(to, name, b"cannot be read"),
     }
 }
@@ -107,7 +111,7 @@ fn fill_from(rt: &impl Files, path: &[u8], text: &mut [u8]) -> Filled
     ensures { result.length ≤ length text.new }
 {
     let Ok(path) = str::from_utf8(path) else {
-        return failed(0);
+        return failed(EILSEQ);
     };
     match fs::open(rt, path) {
         Ok(mut file) => fill(&mut file, text),
