@@ -1,6 +1,7 @@
 #!/usr/bin/env python3
 """Turns the names that a crate's whole proofs cite of a function's steps, which were numbers in the older Rattle, to today's, and the ways back
-from a step to an earlier one, by what `rt check --generated` writes.
+from a step to an earlier one, by what `rt check --generated` writes. For a crate whose source the check reads and whose lower crates are
+proved. It runs once: a second run would take names of today for older ones.
 
 usage: names.py CRATE_FOLDER [FUNCTION..]
 """
@@ -159,15 +160,14 @@ def led(text, steps):
             for var, here in known.items():
                 hops = steps.hops(here, to)
                 if hops is not None:
-                    back = re.escape(chain(var, 0))
-                    line = re.sub(rf"(?<![\w'.-])({re.escape(name)}) {back}((?:\.before)+)(?![\w'.-])", lambda m: f"{m[1]} {chain(var, hops)}", line)
+                    cited = rf"(?<![\w'.-]){re.escape(name)} {re.escape(var)}(?:\.before)+(?![\w'.-])"
+                    line = re.sub(cited, f"{name} {chain(var, hops)}", line)
         return line
 
     for line in text.split("\n"):
         head = re.match(rf"(?:abbrev |pub )?({WORD}) : (.*)", line)
         if head:
             need = re.search(rf"tie\.Need-({WORD})", head[2])
-            first = re.match(rf"\(?(?:(\w+) : )?(?:tie\.)?({WORD})", head[2])
             place = steps.at.get(need[1]) if need else takes.get(head[1])
             known = {}
             target = re.search(rf"→ (?:tie\.)?({WORD})(?: {WORD})*$", line)

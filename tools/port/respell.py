@@ -59,8 +59,7 @@ def turned(text, names, path):
     def turn(found):
         name = found[1]
         where = str(path.relative_to(CRATES))
-        before = text[: found.start()].rstrip(" ")[-1:] if text[found.start() - 1 : found.start()] == "." else ""
-        is_path = text[found.start() - 1 : found.start()] == "." if found.start() else False
+        is_path = found.start() > 0 and text[found.start() - 1] == "."
         if name in LEMMAS and where.startswith(LEMMAS[name][0]) and not is_path:
             return LEMMAS[name][1]
         if name in names:
