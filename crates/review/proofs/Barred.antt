@@ -28,7 +28,7 @@ use Rattle.witbox.specs.contracts.witbox_propose
 use Rattle.review.proofs.Calls.{Call, opens, moves, counts, hands, sorts, judges, answered}
 use Rattle.review.proofs.Calls.Call.{opening, next_raw, next, eat, expect, list_raw, list}
 use Rattle.review.proofs.Calls.Call.{string_literal, parse_id, parse_explicit_id, toposort, check_order, propose}
-use Rattle.review.proofs.Wrong.{Wrong, ◌never◌, wrongs, ruled_out}
+use Rattle.review.proofs.Wrong.{◌never◌, wrongs, ruled_out}
 
 module _ {M : Type 1} {𝓤 : Ura M} (𝓛 : Logic 𝓤) (mem : Memory → SProp 𝓤) (run : Routine → Fun 𝓤) where
   -- The lifetimes of a call, which a contract takes first.

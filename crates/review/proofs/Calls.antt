@@ -1,7 +1,7 @@
 -- What the tables of this room are written in: a call of a host's function, and the numbers that its definition answers it with.
 use Prim.Native.Nat.{ℕ}
 use mathlib.Core.List.{List, [], ◌∷◌}
-use lib.ListN.{length, replicate}
+use lib.ListN.{replicate}
 use Rattle.terms.specs.Terms.{first, count, member, same_bytes}
 use Rattle.answers.specs.declared.Verdict.{Verdict}
 use Rattle.answers.specs.Places.{place}

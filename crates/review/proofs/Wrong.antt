@@ -1,8 +1,8 @@
 -- 01, "Errors to rule out", and others like them: a table of calls with answers that they do not get, and the one statement about it.
 -- No contract of a host's function allows an answer of the table: each is one equation with the definition that computes the right one.
 use Prim.Native.Nat.{ℕ}
-use mathlib.Core.Path.{◌≡◌, refl, sym, ap, ◌∙◌}
-use mathlib.Core.Bool.{Bool, true, false, not, false≢true}
+use mathlib.Core.Path.{◌≡◌, refl, ap, ◌∙◌}
+use mathlib.Core.Bool.{Bool, true, not, false≢true}
 use mathlib.Core.Logic.{⊎_elim}
 use mathlib.Core.List.Memᴰ
 use mathlib.Core.List.{List, [], ◌∷◌, ◌++◌, map, Memᴰ}
