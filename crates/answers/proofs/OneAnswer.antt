@@ -13,7 +13,7 @@ use Rattle.answers.specs.contracts.Refusal.numbers
 use Rattle.answers.specs.contracts.Refusal.number
 use Rattle.answers.specs.contracts.Refusal.position
 use Rattle.answers.specs.contracts.Refusal.detail
-use Rattle.answers.specs.contracts.Verdict.numbers as verdict_numbers
+use Rattle.answers.specs.contracts.NumbersFromVerdict.from as verdict_numbers
 
 module _ {M : Type 1} {𝓤 : Ura M} (𝓛 : Logic 𝓤) (mem : Memory → SProp 𝓤) (run : Routine → Fun 𝓤) where
   pub in_map_one : OneAnswer 𝓤 in_map.ended (in_map.clauses 𝓛 mem run)

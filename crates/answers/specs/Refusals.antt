@@ -1,8 +1,8 @@
 -- 01, "Numbers that come back", 33 of 02, §6, and no 9 by 02, §3: the number, the position and the detail of each answer.
 use Rattle.std.specs.Prelude.{ℕ, ◌+◌, ◌*◌}
 use Rattle.answers.specs.declared.Numbers.{Numbers}
-use Rattle.answers.specs.declared.Verdict.{Verdict}
-use Rattle.answers.specs.declared.Verdict.TheVariants.{Accepted, Refused}
+use Rattle.std.specs.Prelude.{Ok, Err}
+use Rattle.answers.specs.Caps.{Verdict}
 use Rattle.answers.specs.declared.Refusal.{Refusal}
 
 -- A row of the table: the number, the position (of a place, its own number) and the detail.
@@ -44,5 +44,5 @@ told (Refusal.NotAnOrder index) = row 33 0 index
 
 -- Accepted is 0, 0 and 0.
 unfoldable pub told_of : Verdict → Numbers
-told_of Accepted = row 0 0 0
-told_of (Refused refusal) = told refusal
+told_of (Ok _) = row 0 0 0
+told_of (Err refusal) = told refusal

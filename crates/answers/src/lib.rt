@@ -3,32 +3,33 @@
 
 ghost use Rattle.std.specs.Prelude.{◌≡◌, ◌+◌, ◌*◌};
 ghost use Rattle.answers.specs.Places.{in_map};
+ghost use Rattle.answers.specs.declared.Refusal.TheVariants.{IllFormed};
 ghost use Rattle.answers.specs.Caps.{length_verdict, text_verdict};
 ghost use Rattle.answers.specs.Refusals.{row, told, told_of};
 
 // A place in the source: bytes from the text's start.
-#[derive(Clone, Copy)]
+#[derive(Clone, Copy, Debug, PartialEq, Eq)]
 pub struct Place(pub u32);
 
 // A position in the map: the text's offset in the map, and a place, added.
-#[derive(Clone, Copy)]
+#[derive(Clone, Copy, Debug, PartialEq, Eq)]
 pub struct Position(pub u32);
 
 // Where a token stands in the map: its first position, and the first after it.
-#[derive(Clone, Copy)]
+#[derive(Clone, Copy, Debug, PartialEq, Eq)]
 pub struct Span {
     pub start: Position,
     pub end: Position,
 }
 
 // An ill-formed sequence of bytes: where it starts.
-#[derive(Clone, Copy)]
+#[derive(Clone, Copy, Debug, PartialEq, Eq)]
 pub struct Ill {
     pub at: Place,
 }
 
 // Why a call refuses, in the order of the paper's numbers, 1 to 30 without 9, and 33. Where lex.rs has an error of that meaning, the name is its.
-#[derive(Clone, Copy)]
+#[derive(Clone, Copy, Debug, PartialEq, Eq)]
 pub enum Refusal {
     TooLong(u32),
     OutOfMap,
@@ -65,14 +66,19 @@ pub enum Refusal {
 }
 
 // The answer of a check that hands nothing back.
-#[derive(Clone, Copy)]
-pub enum Verdict {
-    Accepted,
-    Refused(Refusal),
+pub type Verdict = Result<(), Refusal>;
+
+// An ill-formed sequence is a refusal by itself.
+impl From<Ill> for Refusal {
+    ghost from_gives = { λ ill refusal. refusal ≡ IllFormed ill };
+
+    fn from(ill: Ill) -> Refusal {
+        Refusal::IllFormed(ill)
+    }
 }
 
 // The three numbers that come back: 01's number, position and detail.
-#[derive(Clone, Copy)]
+#[derive(Clone, Copy, Debug, PartialEq, Eq)]
 pub struct Numbers {
     pub number: u32,
     pub position: u32,
@@ -93,27 +99,24 @@ pub fn check_length(length: usize) -> Verdict
     ensures { result ≡ length_verdict length }
 {
     if length <= 65536 {
-        return Verdict::Accepted;
+        return Ok(());
     }
     if 4294967295 < length {
-        return Verdict::Refused(Refusal::TooLong(4294967295));
+        return Err(Refusal::TooLong(4294967295));
     }
-    Verdict::Refused(Refusal::TooLong(length as u32))
+    Err(Refusal::TooLong(length as u32))
 }
 
 // 1, then 2: a text of this many bytes, at this offset in the map.
+#[tactic(auto, unfolding(crate::specs::Caps::text_verdict, crate::specs::Caps::map_verdict, crate::specs::Caps::first_of), using(crate::proofs::CapsLaws::length_in))]
 pub fn check_text(offset: u32, length: usize) -> Verdict
     ensures { result ≡ text_verdict offset length }
 {
-    match check_length(length) {
-        Verdict::Refused(refusal) => Verdict::Refused(refusal),
-        Verdict::Accepted => {
-            if offset as usize + length <= 4294967294 {
-                return Verdict::Accepted;
-            }
-            Verdict::Refused(Refusal::OutOfMap)
-        }
+    check_length(length)?;
+    if offset as usize + length <= 4294967294 {
+        return Ok(());
     }
+    Err(Refusal::OutOfMap)
 }
 
 fn row(number: u32, position: u32, detail: u32) -> Numbers
@@ -192,15 +195,15 @@ impl Refusal {
     }
 }
 
-impl Verdict {
-    // The three numbers of a verdict: 0, 0 and 0 where it accepts.
+// 0, 0 and 0 where a check accepts.
+impl From<Verdict> for Numbers {
+    ghost from_gives = { λ verdict numbers. numbers ≡ told_of verdict };
+
     #[tactic(auto, unfolding(crate::specs::Refusals::told_of))]
-    pub fn numbers(self) -> Numbers
-        ensures { result ≡ told_of self }
-    {
-        match self {
-            Verdict::Accepted => row(0, 0, 0),
-            Verdict::Refused(refusal) => refusal.numbers(),
+    fn from(verdict: Verdict) -> Numbers {
+        match verdict {
+            Ok(()) => row(0, 0, 0),
+            Err(refusal) => refusal.numbers(),
         }
     }
 }
