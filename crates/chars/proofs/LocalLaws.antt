@@ -8,8 +8,8 @@ use lib.Seq.{get_or-drop}
 use Rattle.answers.specs.declared.Place.{Place}
 use Rattle.chars.specs.Utf8.{byte_at, on_by, char_at}
 use Rattle.chars.specs.View.{char, seen_at, seen_by, folded, folded_at, folded_from}
-use Rattle.chars.specs.declared.Read.{Read}
-use Rattle.chars.specs.declared.Read.TheVariants.{End, Ill, Char}
+use Rattle.chars.specs.Utf8.{Read}
+use Rattle.std.specs.Prelude.{None, Some, Ok, Err}
 use Rattle.chars.proofs.Utf8Laws.{onward}
 use Rattle.chars.proofs.ViewLaws.{folded_onward}
 
@@ -35,9 +35,9 @@ module _ (from : Place) (s t : List ℕ) (a : Alike from s t) where
   folded_alike q l = rw (← char_alike q l) (go (char_at s q) refl)
     where
       go : (r : Read) → char_at s q ≡ r → folded s r ≡ folded t r
-      go End e = refl
-      go (Ill i) e = refl
-      go (Char c n) e = let o = onward s q c n e in rw (byte_alike n (omega (arith, o.beyond)))
+      go (Ok None) e = refl
+      go (Err i) e = refl
+      go (Ok (Some (c, n))) e = let o = onward s q c n e in rw (byte_alike n (omega (arith, o.beyond)))
 
   seen_alike : (k : ℕ) (q : Place) → from.0 ≤ q.0 → seen_by (folded_at s) k q ≡ seen_by (folded_at t) k q
   unfolding seen_by seen_at
@@ -46,9 +46,9 @@ module _ (from : Place) (s t : List ℕ) (a : Alike from s t) where
     where
       go : (r : Read) → folded_at s q ≡ r → ((n : Place) → from.0 ≤ n.0 → seen_by (folded_at s) k n ≡ seen_by (folded_at t) k n)
           → seen_at q r (seen_by (folded_at s) k) ≡ seen_at q r (seen_by (folded_at t) k)
-      go End e ih = refl
-      go (Ill i) e ih = refl
-      go (Char c n) e ih = let o = folded_onward s q c n e in ap (char q c) (ih n (omega (arith, o.beyond)))
+      go (Ok None) e ih = refl
+      go (Err i) e ih = refl
+      go (Ok (Some (c, n))) e ih = let o = folded_onward s q c n e in ap (char q c) (ih n (omega (arith, o.beyond)))
 
   pub view_alike : (q : Place) → from.0 ≤ q.0 → folded_from s q ≡ folded_from t q
   unfolding folded_from

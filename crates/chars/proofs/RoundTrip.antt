@@ -12,14 +12,15 @@ use Rattle.terms.specs.Terms.{within, said}
 use Rattle.terms.proofs.TestLaws.{within_yes, within_true, and_both}
 use Rattle.terms.proofs.TableLaws.{split}
 use Rattle.answers.specs.declared.Place.{Place}
-use Rattle.answers.specs.declared.Verdict.TheVariants.{Accepted}
+use Rattle.answers.specs.Caps.{accepted}
+use Rattle.std.specs.Prelude.{Ok, Err}
 use Rattle.answers.specs.Places.{place}
 use Rattle.answers.proofs.CapsLaws.{refused_not}
 use Rattle.answers.specs.Caps.{cap}
 use Rattle.chars.specs.Utf8.{byte_at, on_by, leads, lead_of, is_tail, char_by, char_at, is_scalar, encode}
 use Rattle.chars.specs.View.{Chars, end, ill, char, chars_from, folded_at, well_formed}
-use Rattle.chars.specs.declared.Read.{Read}
-use Rattle.chars.specs.declared.Read.TheVariants.{End, Ill, Char}
+use Rattle.chars.specs.Utf8.{Read}
+use Rattle.std.specs.Prelude.{None, Some, Ok, Err}
 use Rattle.chars.specs.declared.Lead.{Lead}
 use Rattle.chars.specs.declared.Lead.TheVariants.{Alone, Two, Three, Four, Never}
 use Rattle.chars.proofs.Utf8Laws.{lawful, leads_on, lead_in, two_in, three_in, four_in, scalar_is, scalar_at_most}
@@ -74,7 +75,7 @@ module _ (before after : List ℕ) (c : ℕ) (k : length before < cap) where
   byte_0 xs = ap (λ (n : ℕ). byte_at (before ++ xs) (place n)) (sym (add-zero (length before))) ∙ byte xs 0
 
   abbrev Reads : List ℕ → Type 0
-  Reads xs = char_at (before ++ (xs ++ after)) here ≡ Char c (on_by (length xs) here)
+  Reads xs = char_at (before ++ (xs ++ after)) here ≡ Ok (Some (c, on_by (length xs) here))
 
   reads_one : c ≤ 0x7F → Reads (c ∷ [])
   unfolding char_by lead_of leads said
@@ -117,7 +118,7 @@ module _ (before after : List ℕ) (c : ℕ) (k : length before < cap) where
       (rw (tail_yes (0x80 + c / 64 % 64) (omega arith) (omega arith), tail_yes (0x80 + c % 64) (omega arith) (omega arith), e))
 
   -- THE THEOREM: reading the bytes of a character gives the character, and the place behind them
-  pub read_encode : is_scalar c ≡ true → char_at (before ++ (encode c ++ after)) here ≡ Char c (on_by (length (encode c)) here)
+  pub read_encode : is_scalar c ≡ true → char_at (before ++ (encode c ++ after)) here ≡ Ok (Some (c, on_by (length (encode c)) here))
   read_encode y =
       split 0x7F c (λ h. rw (encode_one c h) (reads_one h)) (λ g.
       split 0x7FF c (λ h. rw (encode_two c g h) (reads_two g h)) (λ f.
@@ -149,7 +150,7 @@ module _ (s : List ℕ) (p : Place) where
     abbrev Encodes : Type 0
     Encodes = take (n.0 - p.0) (drop p.0 s) ≡ encode c
 
-    ways : (l : Lead) → lead_of (byte_at s p) ≡ l → reads_by s p l ≡ Char c n → Encodes
+    ways : (l : Lead) → lead_of (byte_at s p) ≡ l → reads_by s p l ≡ Ok (Some (c, n)) → Encodes
     unfolding char_by bytes
     ways Alone h e =
         let q = char_is e in
@@ -187,27 +188,27 @@ module _ (s : List ℕ) (p : Place) where
         rw (d, run_first 3 (omega (arith, o.inside)), encode_four c (omega arith), f, g, k, l)
     ways Never h e = absurd (char_not_ill e)
 
-    both : char_at s p ≡ Char c n → Encodes
+    both : char_at s p ≡ Ok (Some (c, n)) → Encodes
     both e =
         ⊎_elim (λ w. absurd (char_not_end (sym w.1 ∙ e))) (λ w. ways (lead_of (byte_at s p)) refl (sym w.2 ∙ e)) (stands_so s p)
 
 -- THE THEOREM: whatever reads as a character is the bytes of that character
-pub encode_read : (s : List ℕ) (p : Place) (c : ℕ) (n : Place) → char_at s p ≡ Char c n → take (n.0 - p.0) (drop p.0 s) ≡ encode c
+pub encode_read : (s : List ℕ) (p : Place) (c : ℕ) (n : Place) → char_at s p ≡ Ok (Some (c, n)) → take (n.0 - p.0) (drop p.0 s) ≡ encode c
 encode_read s p c n e = both s p c n (onward s p c n e) e
 
 -- so no character has two encodings
-pub one_encoding : (s t : List ℕ) (p q : Place) (c : ℕ) (n m : Place) → char_at s p ≡ Char c n → char_at t q ≡ Char c m
+pub one_encoding : (s t : List ℕ) (p q : Place) (c : ℕ) (n m : Place) → char_at s p ≡ Ok (Some (c, n)) → char_at t q ≡ Ok (Some (c, m))
     → take (n.0 - p.0) (drop p.0 s) ≡ take (m.0 - q.0) (drop q.0 t)
 one_encoding s t p q c n m d e = encode_read s p c n d ∙ sym (encode_read t q c m e)
 
 -- a character has the bytes that it is read from; a folded one has no more
 module _ (s : List ℕ) (p : Place) (c : ℕ) (n : Place) where
-  pub read_width : char_at s p ≡ Char c n → p.0 + length (encode c) ≡ n.0
+  pub read_width : char_at s p ≡ Ok (Some (c, n)) → p.0 + length (encode c) ≡ n.0
   read_width e =
       let o = onward s p c n e in
       omega (arith, simp (length-take, length-drop) at (ap length (encode_read s p c n e)))
 
-  pub folded_width : folded_at s p ≡ Char c n → p.0 + length (encode c) ≤ n.0
+  pub folded_width : folded_at s p ≡ Ok (Some (c, n)) → p.0 + length (encode c) ≤ n.0
   folded_width e = ⊎_elim newline (λ h. omega (arith, read_width h)) (folded_is s p c n e)
     where
       newline : c ≡ 10 → p.0 + length (encode c) ≤ n.0
@@ -216,13 +217,13 @@ module _ (s : List ℕ) (p : Place) (c : ℕ) (n : Place) where
           omega (arith, ap length (encode_one c (omega arith)))
 
   -- the byte i places on is the character's own, and one below 0x80 is that byte
-  pub read_byte : char_at s p ≡ Char c n → (i : ℕ) → p.0 + i < n.0 → byte_at s (on_by i p) ≡ get_or (encode c) i 0
+  pub read_byte : char_at s p ≡ Ok (Some (c, n)) → (i : ℕ) → p.0 + i < n.0 → byte_at s (on_by i p) ≡ get_or (encode c) i 0
   unfolding byte_at
   read_byte e i l =
       let j : i < n.0 - p.0 = omega arith in
       rw (← encode_read s p c n e, get_or-take (n.0 - p.0) (drop p.0 s) i 0 j, get_or-drop)
 
-  pub ascii_byte : char_at s p ≡ Char c n → c ≤ 0x7F → byte_at s p ≡ c
+  pub ascii_byte : char_at s p ≡ Ok (Some (c, n)) → c ≤ 0x7F → byte_at s p ≡ c
   ascii_byte e h =
       let o = onward s p c n e in
       ap (λ (k : ℕ). byte_at s (place k)) (sym (add-zero p.0)) ∙ read_byte e 0 (omega arith) ∙ rw (encode_one c h)
@@ -234,17 +235,17 @@ encode_all (ill i) = []
 encode_all (char p c v) = encode c ++ encode_all v
 
 module _ (s : List ℕ) (short : length s ≤ cap) where
-  all_from : (k : ℕ) (p : Place) → length s - p.0 < k → well_formed (chars_from s p) ≡ Accepted → encode_all (chars_from s p) ≡ drop p.0 s
+  all_from : (k : ℕ) (p : Place) → length s - p.0 < k → well_formed (chars_from s p) ≡ accepted → encode_all (chars_from s p) ≡ drop p.0 s
   unfolding encode_all well_formed
   all_from zero p h w = absurd (omega arith)
   all_from (suc k) p h w = go (char_at s p) refl (all_from k)
     where
       go : (r : Read) → char_at s p ≡ r
-          → ((q : Place) → length s - q.0 < k → well_formed (chars_from s q) ≡ Accepted → encode_all (chars_from s q) ≡ drop q.0 s)
+          → ((q : Place) → length s - q.0 < k → well_formed (chars_from s q) ≡ accepted → encode_all (chars_from s q) ≡ drop q.0 s)
           → encode_all (chars_from s p) ≡ drop p.0 s
-      go End e ih = rw (chars_end s p e) (sym (drop_of_length-le s (end_at s p short e)))
-      go (Ill i) e ih = absurd (refused_not (rw (chars_ill s p i e) at w))
-      go (Char c n) e ih =
+      go (Ok None) e ih = rw (chars_end s p e) (sym (drop_of_length-le s (end_at s p short e)))
+      go (Err i) e ih = absurd (refused_not (rw (chars_ill s p i e) at w))
+      go (Ok (Some (c, n))) e ih =
           let o = onward s p c n e in
           let j : p.0 + (n.0 - p.0) ≡ n.0 = omega arith in
           let rest : encode_all (chars_from s n) ≡ drop n.0 s = ih n (omega arith) (rw (chars_char s p c n e) at w) in
@@ -253,5 +254,5 @@ module _ (s : List ℕ) (short : length s ≤ cap) where
           ∙ rw (← drop-drop (n.0 - p.0) p.0 s) (take-append-drop (n.0 - p.0) (drop p.0 s)))
 
   -- THE THEOREM: a well-formed text, re-encoded, is itself
-  pub re_encoded : well_formed (chars_from s (place 0)) ≡ Accepted → encode_all (chars_from s (place 0)) ≡ s
+  pub re_encoded : well_formed (chars_from s (place 0)) ≡ accepted → encode_all (chars_from s (place 0)) ≡ s
   re_encoded w = all_from (suc (length s - 0)) (place 0) (omega arith) w

@@ -17,7 +17,7 @@ use Rattle.chars.specs.Utf8.{byte_at, on_by, char_at}
 use Rattle.chars.specs.View.{folded_at}
 use Rattle.chars.specs.inner.Runs.{in_set, stops_at, run_end}
 use Rattle.chars.specs.declared.AsciiSet.{AsciiSet}
-use Rattle.chars.specs.declared.Read.TheVariants.{Char}
+use Rattle.std.specs.Prelude.{Some, Ok}
 use Rattle.chars.proofs.Utf8Laws.{ascii_at_lem}
 use Rattle.chars.proofs.ViewLaws.{folded_ascii_at}
 use Rattle.chars.proofs.SeekLaws.{seek_steps}
@@ -59,13 +59,13 @@ module _ (s : List ℕ) (set : AsciiSet) (p : Place) where
 
   -- with each byte as the character that it is, as the text stands
   pub run_strides_plain : {A : Type 0} (F : Place → A)
-      → ((q : Place) → in_set set (byte_at s q) ≡ true → char_at s q ≡ Char (byte_at s q) (on_by 1 q) → F q ≡ F (on_by 1 q))
+      → ((q : Place) → in_set set (byte_at s q) ≡ true → char_at s q ≡ Ok (Some (byte_at s q, on_by 1 q)) → F q ≡ F (on_by 1 q))
       → F p ≡ F (run_end s set p)
   run_strides_plain F one = run_steps F (λ q m h k. one q m (ascii_at_lem s q h k (in_set_low set _ m)))
 
   -- and folded, where the set has no carriage return
   pub run_strides : {A : Type 0} (F : Place → A) → in_set set 13 ≡ false
-      → ((q : Place) → in_set set (byte_at s q) ≡ true → folded_at s q ≡ Char (byte_at s q) (on_by 1 q) → F q ≡ F (on_by 1 q))
+      → ((q : Place) → in_set set (byte_at s q) ≡ true → folded_at s q ≡ Ok (Some (byte_at s q, on_by 1 q)) → F q ≡ F (on_by 1 q))
       → F p ≡ F (run_end s set p)
   run_strides F no_cr one =
       run_steps F (λ q m h k. one q m (folded_ascii_at s q h k (in_set_low set _ m) (λ e. clash (in_set set 13) (rw (← e) m) no_cr)))

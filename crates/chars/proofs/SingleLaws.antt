@@ -13,7 +13,7 @@ use Rattle.answers.specs.Caps.{cap}
 use Rattle.chars.specs.Utf8.{byte_at, on_by}
 use Rattle.chars.specs.View.{folded_at}
 use Rattle.chars.specs.inner.Single.{single_at}
-use Rattle.chars.specs.declared.Read.TheVariants.{Char}
+use Rattle.std.specs.Prelude.{Some, Ok}
 use Rattle.chars.proofs.ViewLaws.{folded_ascii_at}
 
 -- a byte that reads as itself
@@ -35,5 +35,5 @@ single_is s p e = go (leb (length s) p.0) refl (leb cap p.0) refl e
         let b = and_both (not (eqb (byte_at s p) 13)) (ltb (byte_at s p) 0x80) e in
         record { inside = leb-false _ _ h; capped = leb-false _ _ g; low = ltb-true _ _ b.1; no_cr = eqb-false _ _ (not-true _ b.0) }
 
-pub single_stands : (s : List ℕ) (p : Place) → single_at s p ≡ true → folded_at s p ≡ Char (byte_at s p) (on_by 1 p)
+pub single_stands : (s : List ℕ) (p : Place) → single_at s p ≡ true → folded_at s p ≡ Ok (Some (byte_at s p, on_by 1 p))
 single_stands s p e = let i = single_is s p e in folded_ascii_at s p i.inside i.capped i.low i.no_cr

@@ -17,8 +17,8 @@ use Rattle.answers.specs.declared.Place.{Place}
 use Rattle.answers.specs.declared.Ill.{Ill as Sequence}
 use Rattle.answers.specs.Caps.{cap}
 use Rattle.chars.specs.Utf8.{byte_at, on_by, leads, lead_of, is_tail, ill_at, char_by, char_at, is_scalar}
-use Rattle.chars.specs.declared.Read.{Read}
-use Rattle.chars.specs.declared.Read.TheVariants.{End, Ill, Char}
+use Rattle.chars.specs.Utf8.{Read}
+use Rattle.std.specs.Prelude.{None, Some, Ok, Err}
 use Rattle.chars.specs.declared.Lead.{Lead}
 use Rattle.chars.specs.declared.Lead.TheVariants.{Alone, Two, Three, Four, Never}
 
@@ -157,17 +157,18 @@ pub scalar_at_most : (c : ℕ) → is_scalar c ≡ true → c ≤ 0x10FFFF
 scalar_at_most c e = ⊎_elim (λ h. omega arith) (λ h. h.1) (scalar_is c e)
 
 -- what a character's equation says
-pub char_is : {c d : ℕ} {n m : Place} → Char c n ≡ Char d m → (c ≡ d) × (n ≡ m)
-char_is e = (cc, cc)
+pub char_is : {c d : ℕ} {n m : Place} → ◌≡◌ {A = Read} (Ok (Some (c, n))) (Ok (Some (d, m))) → (c ≡ d) × (n ≡ m)
+char_is {c = c} {d = d} {n = n} {m = m} e =
+    let z : ◌≡◌ {A = ℕ × Place} (c, n) (d, m) = cc in (ap (λ (x : ℕ × Place). x.0) z, ap (λ (x : ℕ × Place). x.1) z)
 
-pub char_not_end : {c : ℕ} {n : Place} → End ≡ Char c n → ⊥
+pub char_not_end : {c : ℕ} {n : Place} → ◌≡◌ {A = Read} (Ok None) (Ok (Some (c, n))) → ⊥
 char_not_end e = let z : ◌≡◌ {A = ℕ} 0 1 = cc in omega arith
 
-pub char_not_ill : {c : ℕ} {n : Place} {i : Sequence} → Ill i ≡ Char c n → ⊥
+pub char_not_ill : {c : ℕ} {n : Place} {i : Sequence} → ◌≡◌ {A = Read} (Err i) (Ok (Some (c, n))) → ⊥
 char_not_ill e = let z : ◌≡◌ {A = ℕ} 0 1 = cc in omega arith
 
 -- what is read where a test decides
-pub chosen : (t : Bool) (p : Place) {c x : ℕ} {n m : Place} → (if t then Char x m else ill_at p) ≡ Char c n → (t ≡ true) × (x ≡ c) × (m.0 ≡ n.0)
+pub chosen : (t : Bool) (p : Place) {c x : ℕ} {n m : Place} → (if t then Ok (Some (x, m)) else ill_at p) ≡ Ok (Some (c, n)) → (t ≡ true) × (x ≡ c) × (m.0 ≡ n.0)
 chosen true p e = (refl, (char_is e).0, ap (λ (q : Place). q.0) (char_is e).1)
 chosen false p e = absurd (char_not_ill e)
 
@@ -195,7 +196,7 @@ stands_by s p b l h k e f = stands s p h k ∙ rw (← e, f)
 -- a place is at the end or beyond it, or in the text
 abbrev pub Stands : List ℕ → Place → Type 0
 Stands s p =
-    ((min (length s) cap ≤ p.0) × (char_at s p ≡ End))
+    ((min (length s) cap ≤ p.0) × (char_at s p ≡ Ok None))
     ⊎ ((p.0 < length s) × (p.0 < cap) × (char_at s p ≡ reads_by s p (lead_of (byte_at s p))))
 
 pub stands_so : (s : List ℕ) (p : Place) → Stands s p
@@ -208,7 +209,7 @@ module _ (s : List ℕ) (p : Place) (c : ℕ) (n : Place) where
   abbrev Says : Type 0
   Says = Onward s p n × (is_scalar c ≡ true) × (n.0 ≤ p.0 + 4)
 
-  ways : (l : Lead) → lead_of (byte_at s p) ≡ l → p.0 < length s → p.0 < cap → reads_by s p l ≡ Char c n → Says
+  ways : (l : Lead) → lead_of (byte_at s p) ≡ l → p.0 < length s → p.0 < cap → reads_by s p l ≡ Ok (Some (c, n)) → Says
   unfolding char_by
   ways Alone h i k e =
       let q = char_is e in
@@ -238,31 +239,31 @@ module _ (s : List ℕ) (p : Place) (c : ℕ) (n : Place) where
       let l = byte_in s (on_by 3 p) (omega arith) in (omega arith, scalar_high c (omega arith) (omega arith), omega arith)
   ways Never h i k e = absurd (char_not_ill e)
 
-  both : char_at s p ≡ Char c n → Says
+  both : char_at s p ≡ Ok (Some (c, n)) → Says
   both e =
       ⊎_elim (λ w. absurd (char_not_end (sym w.1 ∙ e))) (λ w. ways (lead_of (byte_at s p)) refl w.0 w.1 (sym w.2 ∙ e)) (stands_so s p)
 
-  pub onward : char_at s p ≡ Char c n → Onward s p n
+  pub onward : char_at s p ≡ Ok (Some (c, n)) → Onward s p n
   onward e = (both e).0
 
-  pub scalar : char_at s p ≡ Char c n → is_scalar c ≡ true
+  pub scalar : char_at s p ≡ Ok (Some (c, n)) → is_scalar c ≡ true
   scalar e = (both e).1
 
-  pub four_at_most : char_at s p ≡ Char c n → n.0 ≤ p.0 + 4
+  pub four_at_most : char_at s p ≡ Ok (Some (c, n)) → n.0 ≤ p.0 + 4
   four_at_most e = (both e).2
 
 -- what an ill-formed sequence's equation says: it starts at the place that was asked
-ill_is : {i j : Sequence} → Ill i ≡ Ill j → i ≡ j
+ill_is : {i j : Sequence} → ◌≡◌ {A = Read} (Err i) (Err j) → i ≡ j
 ill_is e = cc
 
-pub end_not_ill : {i : Sequence} → End ≡ Ill i → ⊥
+pub end_not_ill : {i : Sequence} → ◌≡◌ {A = Read} (Ok None) (Err i) → ⊥
 end_not_ill e = let z : ◌≡◌ {A = ℕ} 0 1 = cc in omega arith
 
 -- what is read by a first byte is a character, or ill-formed at its own place
 abbrev Decided : Place → Read → Type 0
-Decided p r = ((c : ℕ) × (n : Place) × (r ≡ Char c n)) ⊎ (r ≡ ill_at p)
+Decided p r = ((c : ℕ) × (n : Place) × (r ≡ Ok (Some (c, n)))) ⊎ (r ≡ ill_at p)
 
-decided : (t : Bool) (p : Place) (c : ℕ) (n : Place) → Decided p (if t then Char c n else ill_at p)
+decided : (t : Bool) (p : Place) (c : ℕ) (n : Place) → Decided p (if t then Ok (Some (c, n)) else ill_at p)
 decided true p c n = inl (c, n, refl)
 decided false p c n = inr refl
 
@@ -275,20 +276,20 @@ module _ (s : List ℕ) (p : Place) where
   by_lead (Four low high) = decided (ranged s p low high && (tail s p 2 && tail s p 3)) p _ _
   by_lead Never = inr refl
 
-  pub ill_at_lem : (i : Sequence) → char_at s p ≡ Ill i → i ≡ record { at = p }
+  pub ill_at_lem : (i : Sequence) → char_at s p ≡ Err i → i ≡ record { at = p }
   ill_at_lem i e =
       ⊎_elim (λ w. absurd (end_not_ill (sym w.1 ∙ e)))
       (λ w. ⊎_elim (λ d. absurd (char_not_ill (sym (sym w.2 ∙ e) ∙ d.2))) (λ d. ill_is (sym e ∙ w.2 ∙ d)) (by_lead (lead_of (byte_at s p))))
       (stands_so s p)
 
   -- the end of a text that is not too long is its length
-  pub end_at : length s ≤ cap → char_at s p ≡ End → length s ≤ p.0
+  pub end_at : length s ≤ cap → char_at s p ≡ Ok None → length s ≤ p.0
   end_at k e =
       ⊎_elim (λ w. omega arith)
       (λ w. ⊎_elim (λ d. absurd (char_not_end (sym e ∙ w.2 ∙ d.2))) (λ d. absurd (end_not_ill (sym e ∙ w.2 ∙ d))) (by_lead (lead_of (byte_at s p))))
       (stands_so s p)
 
   -- a byte below 0x80 is a character by itself
-  pub ascii_at_lem : p.0 < length s → p.0 < cap → byte_at s p < 0x80 → char_at s p ≡ Char (byte_at s p) (on_by 1 p)
+  pub ascii_at_lem : p.0 < length s → p.0 < cap → byte_at s p < 0x80 → char_at s p ≡ Ok (Some (byte_at s p, on_by 1 p))
   unfolding char_at char_by lead_of leads said
   ascii_at_lem i k h = rw (lt-leb _ _ i, lt-leb _ _ k, within_yes 0 0x7F (byte_at s p) (omega arith) (omega arith))

@@ -1,13 +1,16 @@
 -- RFC 3629: what stands at a place of a text, and the bytes of a character.
-use Rattle.std.specs.Prelude.{ℕ, ◌+◌, ◌-◌, ◌*◌, ◌/◌, ◌%◌, Bool, ◌&&◌, ◌||◌, List, [], ◌∷◌, ◌++◌, length, get_or, drop, leb, if◌then◌else◌}
+use Rattle.std.specs.Prelude.{ℕ, ◌+◌, ◌-◌, ◌*◌, ◌/◌, ◌%◌, Bool, ◌&&◌, ◌||◌, List, [], ◌∷◌, ◌++◌, length, get_or, drop, leb, Option, None, Some, Result, Ok, Err, if◌then◌else◌}
 use Rattle.terms.specs.Terms.{within, Row, ◌to◌is◌, said}
 use Rattle.answers.specs.declared.Place.{Place}
+use Rattle.answers.specs.declared.Ill.{Ill}
 use Rattle.answers.specs.Places.{place}
 use Rattle.answers.specs.Caps.{cap}
-use Rattle.chars.specs.declared.Read.{Read}
-use Rattle.chars.specs.declared.Read.TheVariants.{End, Ill, Char}
 use Rattle.chars.specs.declared.Lead.{Lead}
 use Rattle.chars.specs.declared.Lead.TheVariants.{Alone, Two, Three, Four, Never}
+
+-- What stands at a place: nothing, where the text ends; an ill-formed sequence; or a character with the next place.
+abbrev pub Read : Type 0
+Read = Result (Option (ℕ × Place)) Ill
 
 -- The byte at a place. Past the end it is 0, which goes on with no sequence.
 unfoldable pub byte_at : List ℕ → Place → ℕ
@@ -35,27 +38,27 @@ is_tail b = within 0x80 0xBF b
 
 -- The ill-formed sequence that starts at a place.
 abbrev pub ill_at : Place → Read
-ill_at p = Ill (record { at = p })
+ill_at p = Err (record { at = p })
 
 -- What the bytes b c d e at a place read as, by what b starts: a character with the next place, or an ill-formed sequence.
 unfoldable pub char_by : Place → ℕ → ℕ → ℕ → ℕ → Lead → Read
-char_by p b c d e Alone = Char b (on_by 1 p)
+char_by p b c d e Alone = Ok (Some (b, on_by 1 p))
 char_by p b c d e (Two low high) =
-    if within low high c then Char ((b - 0xC0) * 64 + (c - 0x80)) (on_by 2 p) else ill_at p
+    if within low high c then Ok (Some ((b - 0xC0) * 64 + (c - 0x80), on_by 2 p)) else ill_at p
 char_by p b c d e (Three low high) =
     if within low high c && is_tail d
-    then Char ((b - 0xE0) * 4096 + (c - 0x80) * 64 + (d - 0x80)) (on_by 3 p)
+    then Ok (Some ((b - 0xE0) * 4096 + (c - 0x80) * 64 + (d - 0x80), on_by 3 p))
     else ill_at p
 char_by p b c d e (Four low high) =
     if within low high c && (is_tail d && is_tail e)
-    then Char ((b - 0xF0) * 262144 + (c - 0x80) * 4096 + (d - 0x80) * 64 + (e - 0x80)) (on_by 4 p)
+    then Ok (Some ((b - 0xF0) * 262144 + (c - 0x80) * 4096 + (d - 0x80) * 64 + (e - 0x80), on_by 4 p))
     else ill_at p
 char_by p b c d e Never = ill_at p
 
 -- What stands at a place of a text. Each call refuses a text longer than the cap before it reads (refusal 1), so nothing is read at or past the cap.
 unfoldable pub char_at : List ℕ → Place → Read
 char_at s p =
-    if leb (length s) p.0 || leb cap p.0 then End
+    if leb (length s) p.0 || leb cap p.0 then Ok None
     else char_by p (byte_at s p) (byte_at s (on_by 1 p)) (byte_at s (on_by 2 p)) (byte_at s (on_by 3 p)) (lead_of (byte_at s p))
 
 -- The numbers that are characters: no surrogate, nothing above U+10FFFF.

@@ -10,6 +10,7 @@ use crate::{Lead, Read};
 use answers::{Ill, Place};
 
 // The byte at a place, 0 past the end.
+#[tactic(auto, unfolding(crate::specs::Utf8::byte_at))]
 pub fn byte_at(text: &[u8], at: Place) -> u32
     ensures { result ≡ byte_at text.now at }
 {
@@ -18,6 +19,7 @@ pub fn byte_at(text: &[u8], at: Place) -> u32
 }
 
 // What a first byte starts: the rows of RFC 3629, section 4.
+#[tactic(auto, unfolding(crate::specs::Utf8::lead_of, crate::specs::Utf8::leads, terms::specs::Terms::said, terms::specs::Terms::within))]
 pub fn lead_of(b: u32) -> Lead
     ensures { result ≡ lead_of b }
 {
@@ -35,6 +37,7 @@ pub fn lead_of(b: u32) -> Lead
     }
 }
 
+#[tactic(auto, unfolding(crate::specs::Utf8::is_tail))]
 fn is_tail(b: u32) -> bool
     ensures { result ≡ is_tail b }
 {
@@ -45,35 +48,30 @@ fn is_tail(b: u32) -> bool
 fn ends_three(low: u32, high: u32, c: u32, d: u32) -> bool
     ensures { result ≡ (within low high c && is_tail d) }
 {
-    if terms::within(low, high, c) {
-        is_tail(d)
-    } else {
-        false
-    }
+    terms::within(low, high, c) && is_tail(d)
 }
 
 // The second of four bytes is in its range, and the others tails.
 fn ends_four(low: u32, high: u32, c: u32, d: u32, e: u32) -> bool
     ensures { result ≡ (within low high c && (is_tail d && is_tail e)) }
 {
-    if ends_three(low, high, c, d) {
-        is_tail(e)
-    } else {
-        false
-    }
+    ends_three(low, high, c, d) && is_tail(e)
 }
 
+#[tactic(auto, unfolding(crate::specs::Utf8::char_by), using(crate::proofs::Utf8Laws::two_in))]
 fn two_at(text: &[u8], at: Place, b: u32, low: u32, high: u32) -> Read
     requires { (at.0 < cap) × (lead_of b ≡ Lead.Two low high) }
     ensures { result ≡ char_by at b (byte_at text.now (on_by 1 at)) 0 0 (Lead.Two low high) }
 {
     let c = byte_at(text, Place(at.0 + 1));
     if terms::within(low, high, c) {
-        return Read::Char((b - 0xC0) * 64 + (c - 0x80), Place(at.0 + 2));
+        let character = (b - 0xC0) * 64 + (c - 0x80);
+        return Ok(Some((character, Place(at.0 + 2))));
     }
-    Read::Ill(Ill { at })
+    Err(Ill { at })
 }
 
+#[tactic(auto, unfolding(crate::specs::Utf8::char_by), using(crate::proofs::Utf8Laws::three_in))]
 fn three_at(text: &[u8], at: Place, b: u32, low: u32, high: u32) -> Read
     requires { (at.0 < cap) × (lead_of b ≡ Lead.Three low high) }
     ensures { result ≡ char_by at b (byte_at text.now (on_by 1 at)) (byte_at text.now (on_by 2 at)) 0 (Lead.Three low high) }
@@ -81,14 +79,13 @@ fn three_at(text: &[u8], at: Place, b: u32, low: u32, high: u32) -> Read
     let c = byte_at(text, Place(at.0 + 1));
     let d = byte_at(text, Place(at.0 + 2));
     if ends_three(low, high, c, d) {
-        return Read::Char(
-            (b - 0xE0) * 4096 + (c - 0x80) * 64 + (d - 0x80),
-            Place(at.0 + 3),
-        );
+        let character = (b - 0xE0) * 4096 + (c - 0x80) * 64 + (d - 0x80);
+        return Ok(Some((character, Place(at.0 + 3))));
     }
-    Read::Ill(Ill { at })
+    Err(Ill { at })
 }
 
+#[tactic(auto, unfolding(crate::specs::Utf8::char_by), using(crate::proofs::Utf8Laws::four_in))]
 fn four_at(text: &[u8], at: Place, b: u32, low: u32, high: u32) -> Read
     requires { (at.0 < cap) × (lead_of b ≡ Lead.Four low high) }
     ensures { result ≡ char_by at b (byte_at text.now (on_by 1 at)) (byte_at text.now (on_by 2 at)) (byte_at text.now (on_by 3 at)) (Lead.Four low high) }
@@ -97,32 +94,28 @@ fn four_at(text: &[u8], at: Place, b: u32, low: u32, high: u32) -> Read
     let d = byte_at(text, Place(at.0 + 2));
     let e = byte_at(text, Place(at.0 + 3));
     if ends_four(low, high, c, d, e) {
-        return Read::Char(
-            (b - 0xF0) * 262144 + (c - 0x80) * 4096 + (d - 0x80) * 64 + (e - 0x80),
-            Place(at.0 + 4),
-        );
+        let character = (b - 0xF0) * 262144 + (c - 0x80) * 4096 + (d - 0x80) * 64 + (e - 0x80);
+        return Ok(Some((character, Place(at.0 + 4))));
     }
-    Read::Ill(Ill { at })
+    Err(Ill { at })
 }
 
 // What stands at a place. Most characters have one byte, so that comes first.
+#[tactic(auto, unfolding(crate::specs::Utf8::char_at, crate::specs::Utf8::char_by))]
 pub fn read_at(text: &[u8], at: Place) -> Read
     ensures { result ≡ char_at text.now at }
 {
     let k = at.0 as usize;
-    if text.len() <= k {
-        return Read::End;
-    }
-    if 65536 <= k {
-        return Read::End;
+    if text.len() <= k || 65536 <= k {
+        return Ok(None);
     }
     let b = byte_at(text, at);
     match lead_of(b) {
-        Lead::Alone => Read::Char(b, Place(at.0 + 1)),
+        Lead::Alone => Ok(Some((b, Place(at.0 + 1)))),
         Lead::Two(low, high) => two_at(text, at, b, low, high),
         Lead::Three(low, high) => three_at(text, at, b, low, high),
         Lead::Four(low, high) => four_at(text, at, b, low, high),
-        Lead::Never => Read::Ill(Ill { at }),
+        Lead::Never => Err(Ill { at }),
     }
 }
 
@@ -132,42 +125,27 @@ pub fn single_at(text: &[u8], at: Place) -> bool
     ensures { result ≡ single_at text.now at }
 {
     let k = at.0 as usize;
-    if text.len() <= k {
-        return false;
-    }
-    if 65536 <= k {
-        return false;
-    }
-    if text[k] == 13 {
-        return false;
-    }
-    text[k] < 0x80
+    k < text.len() && k < 65536 && text[k] != 13 && text[k] < 0x80
 }
 
 // What stands at a place, with a carriage return directly followed by the byte of a newline read as one newline.
+#[tactic(auto, unfolding(crate::specs::View::folded_at, crate::specs::View::folded), using(crate::proofs::Utf8Laws::onward))]
 fn any_folded_at(text: &[u8], at: Place) -> Read
     ensures { result ≡ folded_at text.now at }
 {
-    match read_at(text, at) {
-        Read::End => Read::End,
-        Read::Ill(ill) => Read::Ill(ill),
-        Read::Char(c, next) => {
-            if c == 13 {
-                if byte_at(text, next) == 10 {
-                    return Read::Char(10, Place(next.0 + 1));
-                }
-            }
-            Read::Char(c, next)
-        }
+    match read_at(text, at)? {
+        Some((13, next)) if byte_at(text, next) == 10 => Ok(Some((10, Place(next.0 + 1)))),
+        read => Ok(read),
     }
 }
 
 // The same. Most characters are bytes that read as themselves, so that comes first.
+#[tactic(auto, using(crate::proofs::SingleLaws::single_stands, crate::proofs::SingleLaws::single_is))]
 pub fn folded_at(text: &[u8], at: Place) -> Read
     ensures { result ≡ folded_at text.now at }
 {
     if single_at(text, at) {
-        return Read::Char(byte_at(text, at), Place(at.0 + 1));
+        return Ok(Some((byte_at(text, at), Place(at.0 + 1))));
     }
     any_folded_at(text, at)
 }

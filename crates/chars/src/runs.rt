@@ -14,24 +14,18 @@ fn half(set: AsciiSet, b: u32) -> u64
 }
 
 // The byte is of the set. A choice between two words is no branch, and so is not guessed wrong where letters and digits mix.
+#[tactic(auto, unfolding(crate::specs::inner::Runs::in_set))]
 fn has(set: AsciiSet, b: u32) -> bool
     ensures { result ≡ in_set set b }
 {
-    if b < 128 {
-        return (half(set, b) >> (b % 64)) % 2 == 1;
-    }
-    false
+    b < 128 && (half(set, b) >> (b % 64)) % 2 == 1
 }
 
 // The place behind the last byte that is read.
 pub fn limit(text: &[u8]) -> usize
     ensures { result ≡ min (length text.now) cap }
 {
-    if text.len() < 65536 {
-        text.len()
-    } else {
-        65536
-    }
+    text.len().min(65536)
 }
 
 // The first place from `at` on whose byte is not of the set, or the end.
@@ -39,12 +33,10 @@ pub fn run_end(text: &[u8], at: Place, set: AsciiSet) -> Place
     ensures { result ≡ run_end text.now set at }
 {
     let end = limit(text);
-    let mut k = at.0 as usize;
-    while k < end {
+    for k in at.0 as usize..end {
         if !has(set, text[k] as u32) {
             return Place(k as u32);
         }
-        k += 1;
     }
-    Place(k as u32)
+    Place(at.0.max(end as u32))
 }

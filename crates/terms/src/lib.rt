@@ -6,32 +6,24 @@ ghost use Rattle.terms.specs.Terms;
 ghost use Rattle.terms.specs.Terms.{same_bytes};
 
 // x is one of low, …, high.
+#[tactic(auto, unfolding(crate::specs::Terms::within))]
 pub fn within(low: u32, high: u32, x: u32) -> bool
     ensures { result ≡ Terms.within low high x }
 {
-    if x < low { false } else { x <= high }
+    (low..=high).contains(&x)
 }
 
 // The lesser of two. A function of its own, so that a loop over it has no branch.
 pub fn least(x: u8, y: u8) -> u8
     ensures { result ≡ min x y }
 {
-    if x < y { x } else { y }
+    x.min(y)
 }
 
 // The two are the same bytes.
+#[tactic(auto, using(crate::proofs::BytesLaws::same_pointwise))]
 pub fn same(a: &[u8], b: &[u8]) -> bool
     ensures { result ≡ same_bytes a.now b.now }
 {
-    if a.len() != b.len() {
-        return false;
-    }
-    let mut i = 0;
-    while i < a.len() {
-        if a[i] != b[i] {
-            return false;
-        }
-        i += 1;
-    }
-    true
+    a == b
 }
