@@ -1,27 +1,21 @@
 -- What a sheet that passes every check has, and the tables that `resolve` then leaves.
-use Rattle.std.specs.Prelude.{if◌then◌else◌}
+use Rattle.std.specs.Prelude.{Ok, Err}
 use Prim.Native.Nat.{ℕ, ◌≤◌, ◌<◌}
 use mathlib.Core.Path.{◌≡◌, refl}
-use mathlib.Core.Bool.{Bool, true, false}
 use mathlib.Core.List.{List}
 use native.Mathlib.Omega.{arith}
 use lib.ListN.{length, take, drop}
 use lib.Seq.{take_at}
-use lib.Dec.{ltb}
-use borrow.Author.Tests.{le-leb, ltb-false, eqb-false}
+use borrow.Author.Tests.{le-leb, eqb-false}
 use Rattle.terms.proofs.FirstLaws.{first_le, first_none}
-use Rattle.answers.specs.declared.Verdict.{Verdict}
-use Rattle.answers.specs.declared.Verdict.TheVariants.{Accepted, Refused}
-use Rattle.answers.specs.declared.Refusal.{Refusal}
-use Rattle.answers.specs.declared.Refusal.TheVariants.{RepeatedName, ItemNotFound}
-use Rattle.answers.specs.Caps.{first_of}
-use Rattle.answers.proofs.CapsLaws.{first_both, refused_not}
+use Rattle.answers.specs.Caps.{first_of, Verdict, accepted}
+use Rattle.answers.proofs.CapsLaws.{first_both}
 use Rattle.sheets.specs.Words.{items, listed}
 use Rattle.sheets.specs.Checks.{first_repeat, unlisted, first_unlisted, target_of, repeat_verdict, target_verdict, words_verdict, items_verdict, sheet_verdict}
 use Rattle.sheets.specs.Edges.{owner_of, owners_of, targets_of}
 use Rattle.sheets.specs.inner.Resolving.{tables_verdict, ready_verdict, resolved_by, resolved, Resolved}
 use Rattle.sheets.specs.inner.Asked.{Shaped}
-use Rattle.sheets.proofs.CheckLaws.{words_accepted}
+use Rattle.sheets.proofs.CheckLaws.{words_accepted, distinct_of, known_of}
 use Rattle.sheets.proofs.EdgeLaws.{table_length, target_below}
 
 pub record Accepts (ws bs : List ℕ) : Type 0 where
@@ -29,20 +23,16 @@ pub record Accepts (ws bs : List ℕ) : Type 0 where
   pub distinct : items ws ≤ first_repeat ws bs
   pub known : listed ws ≤ first_unlisted ws bs
 
-not_refused : (t : Bool) (f : Refusal) → (if t then Refused f else Accepted) ≡ Accepted → t ≡ false
-not_refused true f e = absurd (refused_not e)
-not_refused false f e = refl
-
 module _ (ws bs : List ℕ) where
-  pub accepts_of : sheet_verdict ws bs ≡ Accepted → Accepts ws bs
+  pub accepts_of : sheet_verdict ws bs ≡ accepted → Accepts ws bs
   unfolding sheet_verdict items_verdict repeat_verdict target_verdict
   accepts_of e =
       let a = first_both (items_verdict ws bs) (target_verdict ws bs) e in
       let b = first_both (words_verdict ws bs) (repeat_verdict ws bs) a.0 in
       record {
         shape = words_accepted ws bs b.0;
-        distinct = ltb-false (first_repeat ws bs) (items ws) (not_refused (ltb (first_repeat ws bs) (items ws)) (RepeatedName (first_repeat ws bs)) b.1);
-        known = ltb-false (first_unlisted ws bs) (listed ws) (not_refused (ltb (first_unlisted ws bs) (listed ws)) (ItemNotFound (first_unlisted ws bs)) a.1);
+        distinct = distinct_of ws bs b.1;
+        known = known_of ws bs a.1;
       }
 
   -- each edge of an accepted sheet names an item
@@ -52,7 +42,7 @@ module _ (ws bs : List ℕ) where
       omega (arith, target_below ws bs k, eqb-false (target_of ws bs k) (items ws) (first_none (unlisted ws bs) (listed ws) k a.known l))
 
   module _ (os ts : List ℕ) (m : 2048 ≤ length os) (n : 2048 ≤ length ts) where
-    tables_fit : items_verdict ws bs ≡ Accepted → tables_verdict ws os ts ≡ Accepted
+    tables_fit : items_verdict ws bs ≡ accepted → tables_verdict ws os ts ≡ accepted
     unfolding items_verdict tables_verdict
     tables_fit e =
         let s = words_accepted ws bs (first_both (words_verdict ws bs) (repeat_verdict ws bs) e).0 in
@@ -64,10 +54,10 @@ module _ (ws bs : List ℕ) where
     tables_verdict_lem = go (items_verdict ws bs) refl
       where
         go : (v : Verdict) → items_verdict ws bs ≡ v → first_of (first_of v (tables_verdict ws os ts)) (target_verdict ws bs) ≡ first_of v (target_verdict ws bs)
-        go Accepted e = rw (tables_fit e)
-        go (Refused f) e = refl
+        go (Ok _) e = rw (tables_fit e)
+        go (Err f) e = refl
 
-    module _ (ok : sheet_verdict ws bs ≡ Accepted) where
+    module _ (ok : sheet_verdict ws bs ≡ accepted) where
       all_resolved : resolved ws bs os ts ≡ listed ws
       unfolding sheet_verdict ready_verdict resolved_by first_of
       all_resolved =

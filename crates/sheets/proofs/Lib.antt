@@ -1,5 +1,6 @@
 -- The laws of a sheet's checks and edges.
 pub mod CheckLaws
+pub mod FoundLaws
 mod ByteLaws
 mod NameLaws
 pub mod EdgeLaws

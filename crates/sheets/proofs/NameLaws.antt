@@ -1,25 +1,31 @@
 -- Signatures tell names apart, and what is remembered of a name is what the search finds.
 use Prim.Native.Nat.{ℕ, ◌+◌, ◌-◌, ◌*◌, ◌%◌, ◌≤◌, ◌<◌}
 use mathlib.Core.Path.{◌≡◌, refl, sym, ap, ◌∙◌}
-use mathlib.Core.Bool.{Bool, true, false}
+use mathlib.Core.Bool.{true, false}
 use mathlib.Core.List.{List}
 use native.Mathlib.Nat.{zero-add, mul-le-mul_right}
 use native.Mathlib.Numerals.{add-one}
 use native.Mathlib.Omega.{arith}
-use lib.ListN.{length, get_or, set, take, drop, drop_of_length-le, length-set}
-use lib.Seq.{drop-cons, get_or-set_same, get_or-set_other}
-use lib.Dec.{eqb}
-use borrow.Author.Tests.{eqb-true, eqb-false}
+use lib.ListN.{length, get_or, take, drop, drop_of_length-le}
+use lib.Seq.{drop-cons}
+use borrow.Author.Tests.{eqb-false, lt-ltb, le-ltb}
 use Rattle.terms.specs.Terms.{first, same_bytes}
-use Rattle.terms.proofs.FirstLaws.{first_skip, first_le, first_from, none_before}
+use Rattle.terms.proofs.FirstLaws.{first_skip, first_miss, first_le, first_from, none_before}
 use Rattle.terms.proofs.BytesLaws.{same_equal}
 use Rattle.terms.proofs.TestLaws.{fails}
-use Rattle.sheets.specs.Words.{items, name_of, part}
-use Rattle.sheets.specs.Checks.{named, found, repeats}
+use Rattle.sheets.specs.Words.{items, name_of}
+use Rattle.sheets.specs.Checks.{named, found, repeats, first_repeat, repeat_verdict}
 use Rattle.sheets.specs.inner.Bytes.{holds, byte_from}
-use Rattle.sheets.specs.declared.edges.Memo.{Memo}
-use Rattle.sheets.specs.inner.Signatures.{signed_from, signature_of, signatures_of, Signed, Forgets, Remembers}
+use Rattle.sheets.specs.inner.Signatures.{signed_from, signature_of, signatures_of, Signed}
 use Rattle.sheets.proofs.EdgeLaws.{table_length, table_at, over_front}
+use Rattle.sheets.proofs.CheckLaws.{distinct_of}
+use Rattle.std.specs.Prelude.{Err, Option, Some, None}
+use Rattle.std.specs.Option.{is_some}
+use Rattle.terms.specs.Terms.{over}
+use Rattle.sheets.specs.inner.Found.{before}
+use Rattle.sheets.proofs.FoundLaws.{index_found, end_reached, is_found, found_here, found_none}
+use Rattle.answers.specs.declared.Refusal.TheVariants.{RepeatedName}
+use Rattle.answers.specs.Caps.{Verdict, accepted}
 
 -- the loop of `signature`
 module _ (name : List ℕ) (i factor step sum : ℕ) where
@@ -61,41 +67,64 @@ module _ (ws bs key : List ℕ) where
       other j a b =
           signed_apart j (λ q. eqb-false (get_or ss j 0) s (none_before (holds ss s) (length ss - k) k j a (omega (arith, onto))) (entry j (omega (arith, onto, below)) ∙ q ∙ sym is))
 
+-- the loop of `find`, where all items before `from` have other names, and the byte search goes on from there
+module _ (ws bs key ss : List ℕ) (from s : ℕ) (all : ss ≡ signatures_of ws bs (length ss)) (is : s ≡ signature_of key) (within : from ≤ length ss)
+    (so-far : found ws bs (length ss) key ≡ first (named ws bs key) from (length ss - from)) where
+  module _ (i : ℕ) (got : Some i ≡ before (length ss) (byte_from ss from s)) where
+    stops_at : found ws bs (length ss) key ≡ first (named ws bs key) i (length ss - i)
+    stops_at = so-far ∙ (found_on ws bs key ss from i s all is within (index_found (length ss) (byte_from ss from s) i got).0).1
+
+    pub stops_in : (from ≤ i) × (i < length ss)
+    unfolding holds
+    stops_in =
+        let f = index_found (length ss) (byte_from ss from s) i got in
+        let e : i ≡ byte_from ss from s = f.0 in
+        (omega (arith, first_from (holds ss s) (length ss - from) from), f.1)
+
+    module _ (name : List ℕ) (named-so : name ≡ name_of ws bs i) where
+      pub named_here : same_bytes name key ≡ true → Some i ≡ before (length ss) (found ws bs (length ss) key)
+      unfolding named
+      named_here t = found_here (named ws bs key) (length ss) i (found ws bs (length ss) key) stops_at stops_in.1 (rw named-so at t)
+
+      pub named_later : same_bytes name key ≡ false → found ws bs (length ss) key ≡ first (named ws bs key) (i + 1) (length ss - (i + 1))
+      unfolding named
+      named_later t = stops_at ∙ first_miss (named ws bs key) i (length ss) stops_in.1 (rw named-so at t)
+
+  pub named_nowhere : ◌≡◌ {A = Option ℕ} None (before (length ss) (byte_from ss from s)) → None ≡ before (length ss) (found ws bs (length ss) key)
+  named_nowhere e =
+      found_none (named ws bs key) (length ss) (byte_from ss from s) (found ws bs (length ss) key)
+      (so-far ∙ (found_on ws bs key ss from (byte_from ss from s) s all is within refl).1)
+      (end_reached (length ss) (byte_from ss from s) e)
+
+-- the loop of `sign`: the signatures before item i are at the front
+module _ (ws bs ss₀ ss : List ℕ) (i : ℕ) (written : ss ≡ over (signatures_of ws bs i) ss₀) where
+  pub front_length : length (take i ss) ≡ i
+  front_length = rw (written, over_front (λ (j : ℕ). signature_of (name_of ws bs j)) ss₀ i) (table_length (λ (j : ℕ). signature_of (name_of ws bs j)) 0 i)
+
+  pub front_signed : take i ss ≡ signatures_of ws bs (length (take i ss))
+  front_signed = rw front_length (rw written (over_front (λ (j : ℕ). signature_of (name_of ws bs j)) ss₀ i))
+
+  pub finds_repeat : (name : List ℕ) (o : Option ℕ) → name ≡ name_of ws bs i → o ≡ before (length (take i ss)) (found ws bs (length (take i ss)) name) → is_some o ≡ repeats ws bs i
+  unfolding repeats
+  finds_repeat name o n e = rw (e, front_length, n) (is_found i (found ws bs i (name_of ws bs i)))
+
+-- the verdict on repeated names
+module _ (ws bs : List ℕ) (i : ℕ) (is : first_repeat ws bs ≡ i) where
+  pub refuses_repeat : i < items ws → Err (RepeatedName i) ≡ repeat_verdict ws bs
+  unfolding repeat_verdict
+  refuses_repeat l = rw (is, lt-ltb i (items ws) l)
+
+  pub accepts_names : items ws ≤ i → accepted ≡ repeat_verdict ws bs
+  unfolding repeat_verdict
+  accepts_names l = rw (is, le-ltb i (items ws) l)
+
 -- where no name is repeated, the signatures of all items are there
-pub signed_all : (ws bs ss : List ℕ) (n i : ℕ) (ss' : List ℕ) → Signed ws bs ss i ss' → n ≡ items ws → n ≤ i
+pub signed_all : (ws bs ss : List ℕ) (n : ℕ) (answer : Verdict) (ss' : List ℕ) → Signed ws bs ss answer ss' → n ≡ items ws → answer ≡ accepted
     → (length (take n ss') ≡ items ws) × (take n ss' ≡ signatures_of ws bs (items ws))
-signed_all ws bs ss n i ss' s e l = (ap length all ∙ table_length (λ (j : ℕ). signature_of (name_of ws bs j)) 0 (items ws), all)
+signed_all ws bs ss n answer ss' s e ok = (ap length all ∙ table_length (λ (j : ℕ). signature_of (name_of ws bs j)) 0 (items ws), all)
   where
-    every : i ≡ items ws
-    every = omega (arith, s.stops, first_le (repeats ws bs) (items ws) 0)
+    every : first_repeat ws bs ≡ items ws
+    every = omega (arith, distinct_of ws bs (sym s.verdict ∙ ok), first_le (repeats ws bs) (items ws) 0)
 
     all : take n ss' ≡ signatures_of ws bs (items ws)
     all = rw (e, s.signatures, every) (over_front (λ (j : ℕ). signature_of (name_of ws bs j)) ss (items ws))
-
--- the memo
-pub remembers_none : (ws bs : List ℕ) (memo : Memo) → Forgets memo → Remembers ws bs memo
-remembers_none ws bs memo f = record {
-  right = λ j at size l a b e. absurd (omega (arith, f.free j l));
-  long = f.long;
-  wide = f.wide;
-}
-
-pub remembers_more : (ws bs : List ℕ) (memo : Memo) (j at size t : ℕ) → Remembers ws bs memo → j < 512 → at ≤ 65536 → size ≤ 65536
-    → t ≡ found ws bs (items ws) (part bs at size) → t < items ws
-    → Remembers ws bs (record { range = set memo.range j (at * 4294967296 + size); item = set memo.item j t })
-remembers_more ws bs memo j at size t m l a b e u = record {
-  right = λ i p z il pl zl q. go i p z il pl zl q (eqb i j) refl;
-  long = length-set memo.range j _ ∙ m.long;
-  wide = length-set memo.item j _ ∙ m.wide;
-}
-  where
-    go : (i p z : ℕ) → i < 512 → p ≤ 65536 → z ≤ 65536 → get_or (set memo.range j (at * 4294967296 + size)) i 0 ≡ p * 4294967296 + z → (s : Bool) → eqb i j ≡ s
-        → (found ws bs (items ws) (part bs p z) ≡ get_or (set memo.item j t) i 0) × (get_or (set memo.item j t) i 0 < items ws)
-    go i p z il pl zl q true w =
-        let h : get_or (set memo.range j (at * 4294967296 + size)) i 0 ≡ at * 4294967296 + size = rw (eqb-true i j w, get_or-set_same memo.range j (at * 4294967296 + size) 0 (omega (arith, m.long))) in
-        let x : p ≡ at = omega arith in
-        let y : z ≡ size = omega arith in
-        rw (eqb-true i j w, get_or-set_same memo.item j t 0 (omega (arith, m.wide)), x, y) (sym e, u)
-    go i p z il pl zl q false w =
-        let ne = eqb-false i j w in
-        rw (get_or-set_other memo.item j i t 0 ne) (m.right i p z il pl zl (sym (get_or-set_other memo.range j i (at * 4294967296 + size) 0 ne) ∙ q))

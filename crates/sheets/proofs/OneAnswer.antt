@@ -9,7 +9,7 @@ use prog.Routine.{Routine}
 use types.Logic.{Logic}
 use contract.Monad.{Fun}
 use Rattle.terms.proofs.OneAnswer.{OneAnswer, OneOutcome, both, agree}
-use Rattle.answers.specs.declared.Verdict.{Verdict}
+use Rattle.answers.specs.Caps.{Verdict}
 use Rattle.sheets.specs.contracts.byte_from
 use Rattle.sheets.specs.contracts.resolve
 

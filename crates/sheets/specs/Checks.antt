@@ -1,19 +1,17 @@
 -- 01, "Dependency sheet": the checks of a sheet, in their order: 1, under five words 26, 27, other faults of shape or a name outside the slice 26, 28, 29.
-use Rattle.std.specs.Prelude.{ℕ, zero, suc, ◌+◌, ◌*◌, Bool, ◌&&◌, List, length, get_or, eqb, leb, ltb, if◌then◌else◌}
+use Rattle.std.specs.Prelude.{ℕ, zero, suc, ◌+◌, ◌*◌, Bool, ◌&&◌, List, length, get_or, eqb, leb, ltb, if◌then◌else◌, Err}
 use Rattle.terms.specs.Terms.{first, same_bytes}
-use Rattle.answers.specs.declared.Verdict.{Verdict}
-use Rattle.answers.specs.declared.Verdict.TheVariants.{Accepted, Refused}
 use Rattle.answers.specs.declared.Refusal.TheVariants.{MalformedSheet, TooManyItems, RepeatedName, ItemNotFound}
-use Rattle.answers.specs.Caps.{first_of, length_verdict}
+use Rattle.answers.specs.Caps.{first_of, length_verdict, Verdict, accepted}
 use Rattle.sheets.specs.Words.{items, listed, name_at, name_length, first_edge, edge_count, name_of}
 
 -- 26: under five words.
 unfoldable pub head_verdict : List ℕ → Verdict
-head_verdict ws = if leb 5 (length ws) then Accepted else Refused MalformedSheet
+head_verdict ws = if leb 5 (length ws) then accepted else Err MalformedSheet
 
 -- 27: over 256 items or 2,048 dependencies.
 unfoldable pub count_verdict : List ℕ → Verdict
-count_verdict ws = if leb (items ws) 256 && leb (listed ws) 2048 then Accepted else Refused TooManyItems
+count_verdict ws = if leb (items ws) 256 && leb (listed ws) 2048 then accepted else Err TooManyItems
 
 -- The header's other words are 5, 5 + 4N and 5 + 4N + 4E, and the last is the word count.
 unfoldable pub headed : List ℕ → Bool
@@ -41,7 +39,7 @@ shaped ws bs = headed ws && (runs_on ws 0 (items ws) 0 && eqb (first_outside ws 
 
 -- 26: other faults of shape, or a name outside the slice.
 unfoldable pub shape_verdict : List ℕ → List ℕ → Verdict
-shape_verdict ws bs = if shaped ws bs then Accepted else Refused MalformedSheet
+shape_verdict ws bs = if shaped ws bs then accepted else Err MalformedSheet
 
 -- 1, under five words 26, 27, other faults of shape or a name outside the slice 26.
 unfoldable pub words_verdict : List ℕ → List ℕ → Verdict
@@ -66,7 +64,7 @@ first_repeat ws bs = first (repeats ws bs) 0 (items ws)
 
 -- 28: a repeated name.
 unfoldable pub repeat_verdict : List ℕ → List ℕ → Verdict
-repeat_verdict ws bs = if ltb (first_repeat ws bs) (items ws) then Refused (RepeatedName (first_repeat ws bs)) else Accepted
+repeat_verdict ws bs = if ltb (first_repeat ws bs) (items ws) then Err (RepeatedName (first_repeat ws bs)) else accepted
 
 -- The item that edge k names; N where no item has that name.
 unfoldable pub target_of : List ℕ → List ℕ → ℕ → ℕ
@@ -82,7 +80,7 @@ first_unlisted ws bs = first (unlisted ws bs) 0 (listed ws)
 
 -- 29: a dependency not listed.
 unfoldable pub target_verdict : List ℕ → List ℕ → Verdict
-target_verdict ws bs = if ltb (first_unlisted ws bs) (listed ws) then Refused (ItemNotFound (first_unlisted ws bs)) else Accepted
+target_verdict ws bs = if ltb (first_unlisted ws bs) (listed ws) then Err (ItemNotFound (first_unlisted ws bs)) else accepted
 
 -- Those, then 28.
 unfoldable pub items_verdict : List ℕ → List ℕ → Verdict

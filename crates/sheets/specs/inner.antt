@@ -1,5 +1,6 @@
 -- What no host's contract needs.
 pub mod Bytes
+pub mod Found
 pub mod Resolving
 pub mod Asked
 pub mod Signatures

@@ -1,6 +1,7 @@
 //! A byte looked for in bytes, sixteen at a time.
 ghost use Rattle.std.specs.Prelude.{◌≡◌, false, ℕ, ◌+◌, ◌-◌, ◌<◌, ◌≤◌, length, eqb, if◌then◌else◌};
 ghost use Rattle.sheets.specs.inner.Bytes.{holds, byte_from};
+ghost use Rattle.sheets.specs.inner.Found.{before};
 
 // 1 where the byte is x, else what was seen before.
 fn seen(b: u8, x: u8, any: u8) -> u8
@@ -36,19 +37,17 @@ fn skip(bytes: &[u8], from: usize, x: u8) -> usize
     k
 }
 
-// The first place from k on where the byte is x; the length where there is none.
-pub fn byte_from(bytes: &[u8], from: usize, x: u8) -> usize
-    ensures { result ≡ byte_from bytes.now from x }
+// The first place from k on where the byte is x.
+pub fn byte_from(bytes: &[u8], from: usize, x: u8) -> Option<usize>
+    ensures { result ≡ before (length bytes.now) (byte_from bytes.now from x) }
 {
     if bytes.len() < from {
-        return from;
+        return None;
     }
-    let mut k = skip(bytes, from, x);
-    while k < bytes.len() {
+    for k in skip(bytes, from, x)..bytes.len() {
         if bytes[k] == x {
-            return k;
+            return Some(k);
         }
-        k += 1;
     }
-    k
+    None
 }

@@ -2,7 +2,8 @@
 use Rattle.std.specs.Prelude.{ℕ, ◌+◌, ◌*◌, ◌≤◌, ◌<◌, ◌≡◌, List, length}
 use Rattle.sheets.specs.Words.{items, listed, name_at, name_length}
 use Rattle.terms.specs.Terms.{over}
-use Rattle.sheets.specs.Checks.{first_unlisted}
+use Rattle.answers.specs.Caps.{Verdict}
+use Rattle.sheets.specs.Checks.{first_unlisted, target_verdict}
 use Rattle.sheets.specs.Edges.{owner_of, owners_of, targets_of}
 
 -- The header is there, and its counts are in the caps.
@@ -20,8 +21,8 @@ pub record Shaped (ws bs : List ℕ) : Type 0 where
   pub inside : (r : ℕ) → r < items ws + listed ws → name_at ws r + name_length ws r ≤ length bs
   pub owned : (k : ℕ) → k < listed ws → owner_of ws k < items ws
 
--- The answer is the first edge that names no item, or the number of edges; the tables have the edges before it at their front.
-pub record Filled (ws bs os ts : List ℕ) (u : ℕ) (os' ts' : List ℕ) : Type 0 where
-  pub stops : u ≡ first_unlisted ws bs
-  pub owners : os' ≡ over (owners_of ws u) os
-  pub targets : ts' ≡ over (targets_of ws bs u) ts
+-- The answer is the verdict on the targets; the tables have the edges before the first that names no item at their front.
+pub record Filled (ws bs os ts : List ℕ) (answer : Verdict) (os' ts' : List ℕ) : Type 0 where
+  pub verdict : answer ≡ target_verdict ws bs
+  pub owners : os' ≡ over (owners_of ws (first_unlisted ws bs)) os
+  pub targets : ts' ≡ over (targets_of ws bs (first_unlisted ws bs)) ts
