@@ -7,6 +7,7 @@ use native.Mathlib.Omega.{arith}
 use lib.ListN.{length, get_or, drop}
 use lib.Seq.{sets, sets-eq}
 use borrow.Author.Tests.{le-leb, lt-leb}
+use Rattle.std.specs.Prelude.{Option, None, Some}
 use Rattle.terms.proofs.TableLaws.{split}
 use Rattle.chars.specs.Utf8.{is_scalar, encode, encoded}
 
@@ -27,11 +28,24 @@ module _ (c : ℕ) where
   unfolding encode
   encode_four g = rw (lt-leb c 0x7F (omega arith), lt-leb c 0x7FF (omega arith), lt-leb c 0xFFFF g)
 
+  -- how many they are
+  pub size_one : c ≤ 0x7F → length (encode c) ≡ 1
+  size_one h = ap length (encode_one h)
+
+  pub size_two : 0x7F < c → c ≤ 0x7FF → length (encode c) ≡ 2
+  size_two g h = ap length (encode_two g h)
+
+  pub size_three : 0x7FF < c → c ≤ 0xFFFF → length (encode c) ≡ 3
+  size_three g h = ap length (encode_three g h)
+
+  pub size_four : 0xFFFF < c → length (encode c) ≡ 4
+  size_four g = ap length (encode_four g)
+
   pub encode_most : length (encode c) ≤ 4
   encode_most =
-      split 0x7F c (λ h. omega (arith, ap length (encode_one h))) (λ g.
-      split 0x7FF c (λ h. omega (arith, ap length (encode_two g h))) (λ f.
-      split 0xFFFF c (λ h. omega (arith, ap length (encode_three f h))) (λ e. omega (arith, ap length (encode_four e)))))
+      split 0x7F c (λ h. omega (arith, size_one h)) (λ g.
+      split 0x7FF c (λ h. omega (arith, size_two g h)) (λ f.
+      split 0xFFFF c (λ h. omega (arith, size_three f h)) (λ e. omega (arith, size_four e))))
 
   -- every byte behind the first is 0x80 or more
   abbrev Tails : List ℕ → Type 0
@@ -56,21 +70,21 @@ module _ (c : ℕ) where
 
   module _ (b : List ℕ) where
     -- no such character
-    pub encoded_none : is_scalar c ≡ false → (0, b) ≡ encoded c b
+    pub encoded_none : is_scalar c ≡ false → (None, b) ≡ encoded c b
     unfolding encoded
     encoded_none h = rw h
 
     module _ (yes : is_scalar c ≡ true) where
       -- no room
-      pub encoded_short : length b < length (encode c) → (0, b) ≡ encoded c b
+      pub encoded_short : length b < length (encode c) → (None, b) ≡ encoded c b
       unfolding encoded
       encoded_short h = rw (yes, lt-leb _ _ h)
 
       -- the bytes vs, stored one by one
-      pub encoded_by : (vs : List ℕ) → encode c ≡ vs → length (encode c) ≤ length b → (length (encode c), sets b 0 vs) ≡ encoded c b
+      pub encoded_by : (vs : List ℕ) → encode c ≡ vs → length (encode c) ≤ length b → (Some (length (encode c)), sets b 0 vs) ≡ encoded c b
       unfolding encoded
       encoded_by vs e h =
-          rw (yes, le-leb _ _ h, e) (λ i. (length vs, front i))
+          rw (yes, le-leb _ _ h, e) (λ i. (Some (length vs), front i))
         where
           front : sets b 0 vs ≡ vs ++ drop (length vs) b
           front =

@@ -73,9 +73,9 @@ encode c =
     else (if leb c 0xFFFF then (0xE0 + c / 4096) ∷ (0x80 + c / 64 % 64) ∷ (0x80 + c % 64) ∷ []
     else (0xF0 + c / 262144) ∷ (0x80 + c / 4096 % 64) ∷ (0x80 + c / 64 % 64) ∷ (0x80 + c % 64) ∷ []))
 
--- The bytes of a character at the front of a buffer, counted; no character, or no room, leaves the buffer as it was and counts 0.
-unfoldable pub encoded : ℕ → List ℕ → ℕ × List ℕ
+-- The bytes of a character at the front of a buffer, counted; no character, or no room, leaves the buffer as it was, and nothing is counted.
+unfoldable pub encoded : ℕ → List ℕ → Option ℕ × List ℕ
 encoded c buffer =
     if is_scalar c && leb (length (encode c)) (length buffer)
-    then (length (encode c), encode c ++ drop (length (encode c)) buffer)
-    else (0, buffer)
+    then (Some (length (encode c)), encode c ++ drop (length (encode c)) buffer)
+    else (None, buffer)

@@ -1,5 +1,6 @@
 -- Each contract leaves one answer and one content of what is lent.
 use Prim.Native.Nat.{ℕ}
+use Rattle.std.specs.Prelude.{Option}
 use mathlib.Core.List.{List}
 use seplogic.Ra.Ura.{Ura}
 use base.Logic.{SProp}
@@ -20,5 +21,5 @@ module _ {M : Type 1} {𝓤 : Ura M} (𝓛 : Logic 𝓤) (mem : Memory → SProp
   width_one κs a g z z' e e' = agree 𝓤
 
   -- the count, and the buffer
-  pub encode_one : OneOutcome 𝓤 encode.ended (λ κs. ℕ × List ℕ) (λ κs z e. (z, e.1.0.now)) (encode.clauses 𝓛 mem run)
+  pub encode_one : OneOutcome 𝓤 encode.ended (λ κs. Option ℕ × List ℕ) (λ κs z e. (z, e.1.0.now)) (encode.clauses 𝓛 mem run)
   encode_one κs a g z z' e e' = agree 𝓤
