@@ -9,9 +9,8 @@ pub use plain::plain_end;
 pub use screening::{detect_invalid_input, offence_of};
 
 // What screening finds wrong with a character.
-#[derive(Clone, Copy)]
+#[derive(Clone, Copy, Debug, PartialEq, Eq)]
 pub enum Offence {
-    None,
     Control,
     Deprecated,
     Forbidden,
