@@ -1,5 +1,5 @@
 -- The parts' turns, and the bytes that a part passes over at once.
-use Rattle.std.specs.Prelude.{if◌then◌else◌}
+use Rattle.std.specs.Prelude.{None, Some, Result, Ok, Err, if◌then◌else◌}
 use Prim.Native.Nat.{ℕ, ◌≤◌, ◌<◌}
 use mathlib.Core.Path.{◌≡◌, refl, sym, ap, ◌∙◌}
 use mathlib.Core.Bool.{Bool, true, false, not, ◌||◌}
@@ -13,10 +13,8 @@ use Rattle.terms.proofs.BelowLaws.{all_below}
 use Rattle.answers.specs.declared.Place.{Place}
 use Rattle.answers.specs.declared.Position.{Position}
 use Rattle.answers.specs.declared.Ill.{Ill as Sequence}
-use Rattle.answers.specs.declared.Verdict.TheVariants.{Refused}
 use Rattle.answers.specs.declared.Refusal.{Refusal}
-use Rattle.chars.specs.declared.Read.{Read}
-use Rattle.chars.specs.declared.Read.TheVariants.{End, Ill, Char}
+use Rattle.chars.specs.Utf8.{Read}
 use Rattle.chars.specs.Utf8.{byte_at, on_by, char_at}
 use Rattle.chars.specs.View.{chars_from}
 use Rattle.chars.specs.inner.Runs.{in_set, run_end}
@@ -25,22 +23,21 @@ use Rattle.chars.proofs.ViewLaws.{chars_end, chars_ill, chars_char}
 use Rattle.chars.proofs.RunLaws.{run_strides_plain, each_of_set}
 use Rattle.parts.specs.declared.Letter.{Letter}
 use Rattle.parts.specs.declared.Part.{Part}
-use Rattle.parts.specs.declared.Step.{Step}
-use Rattle.parts.specs.Parts.{letters, letter_of, step_by, ended_by, stepped, parts_from}
+use Rattle.parts.specs.Parts.{letters, letter_of, empty, bad, step_by, ended_by, stepped, parts_from}
 use Rattle.parts.specs.inner.Runs.{staying}
 
 -- any other character is bad in every part
-pub other_bad : (part : Part) → step_by part Letter.Other ≡ Step.Bad
+pub other_bad : (q : Position) (c : ℕ) (part : Part) → step_by q c part Letter.Other ≡ bad q c
 unfolding step_by
-other_bad Part.First = refl
-other_bad Part.Next = refl
-other_bad Part.Digits = refl
-other_bad Part.Upper = refl
-other_bad Part.Lower = refl
+other_bad q c Part.First = refl
+other_bad q c Part.Next = refl
+other_bad q c Part.Digits = refl
+other_bad q c Part.Upper = refl
+other_bad q c Part.Lower = refl
 
 module _ (q : Position) (e : Place) (part : Part) (s : List ℕ) (p : Place) where
   -- an ill-formed sequence is found where it begins
-  ill_place : (i : Sequence) → char_at s p ≡ Ill i → i.at.0 ≡ p.0
+  ill_place : (i : Sequence) → char_at s p ≡ Err i → i.at.0 ≡ p.0
   ill_place i g = ap (λ (k : Sequence). k.at.0) (ill_at_lem s p i g)
 
   -- at the span's end, and behind it
@@ -49,34 +46,34 @@ module _ (q : Position) (e : Place) (part : Part) (s : List ℕ) (p : Place) whe
   parts_ended h = go (char_at s p) refl
     where
       go : (r : Read) → char_at s p ≡ r → parts_from q e part (chars_from s p) ≡ ended_by q part
-      go End g = rw (chars_end s p g)
-      go (Ill i) g = rw (chars_ill s p i g, ill_place i g, le-leb e.0 p.0 h)
-      go (Char c n) g = rw (chars_char s p c n g, le-leb e.0 p.0 h)
+      go (Ok None) g = rw (chars_end s p g)
+      go (Err i) g = rw (chars_ill s p i g, ill_place i g, le-leb e.0 p.0 h)
+      go (Ok (Some (c, n))) g = rw (chars_char s p c n g, le-leb e.0 p.0 h)
 
-  pub parts_end : char_at s p ≡ End → parts_from q e part (chars_from s p) ≡ ended_by q part
+  pub parts_end : char_at s p ≡ Ok None → parts_from q e part (chars_from s p) ≡ ended_by q part
   unfolding parts_from
   parts_end g = rw (chars_end s p g)
 
   module _ (before : p.0 < e.0) where
-    pub parts_ill : (i : Sequence) → char_at s p ≡ Ill i → parts_from q e part (chars_from s p) ≡ Refused (Refusal.IllFormed i)
+    pub parts_ill : (i : Sequence) → char_at s p ≡ Err i → parts_from q e part (chars_from s p) ≡ Err (Refusal.IllFormed i)
     unfolding parts_from
     parts_ill i g = rw (chars_ill s p i g, ill_place i g, lt-leb e.0 p.0 before)
 
-    pub parts_char : (c : ℕ) (n : Place) → char_at s p ≡ Char c n
-        → parts_from q e part (chars_from s p) ≡ stepped (step_by part (letter_of c)) q c (λ next. parts_from q e next (chars_from s n))
+    pub parts_char : (c : ℕ) (n : Place) → char_at s p ≡ Ok (Some (c, n))
+        → parts_from q e part (chars_from s p) ≡ stepped (step_by q c part (letter_of c)) (λ next. parts_from q e next (chars_from s n))
     unfolding parts_from
     parts_char c n g = rw (chars_char s p c n g, lt-leb e.0 p.0 before)
 
-    module _ (c : ℕ) (n : Place) (g : char_at s p ≡ Char c n) where
-      pub parts_on : (next : Part) → step_by part (letter_of c) ≡ Step.On next → parts_from q e part (chars_from s p) ≡ parts_from q e next (chars_from s n)
+    module _ (c : ℕ) (n : Place) (g : char_at s p ≡ Ok (Some (c, n))) where
+      pub parts_on : (onward : Part) → step_by q c part (letter_of c) ≡ Ok onward → parts_from q e part (chars_from s p) ≡ parts_from q e onward (chars_from s n)
       unfolding stepped
-      parts_on next h = parts_char c n g ∙ rw h
+      parts_on onward h = parts_char c n g ∙ rw h
 
-      pub parts_empty : step_by part (letter_of c) ≡ Step.Empty → parts_from q e part (chars_from s p) ≡ Refused (Refusal.IdPartEmpty q)
+      pub parts_empty : step_by q c part (letter_of c) ≡ empty q → parts_from q e part (chars_from s p) ≡ Err (Refusal.IdPartEmpty q)
       unfolding stepped
       parts_empty h = parts_char c n g ∙ rw h
 
-      pub parts_bad : step_by part (letter_of c) ≡ Step.Bad → parts_from q e part (chars_from s p) ≡ Refused (Refusal.InvalidCharInId q c)
+      pub parts_bad : step_by q c part (letter_of c) ≡ bad q c → parts_from q e part (chars_from s p) ≡ Err (Refusal.InvalidCharInId q c)
       unfolding stepped
       parts_bad h = parts_char c n g ∙ rw h
 
@@ -105,32 +102,30 @@ part_back Part.Upper = refl
 part_back Part.Lower = refl
 
 -- a step that goes on in the same part
-stays : Part → Step → Bool
-stays a (Step.On b) = eqb (number_of a) (number_of b)
-stays a Step.Empty = false
-stays a Step.Bad = false
+stays : Part → Result Part Refusal → Bool
+stays a (Ok b) = eqb (number_of a) (number_of b)
+stays a (Err f) = false
 
-stays_on : (a : Part) (x : Step) → stays a x ≡ true → x ≡ Step.On a
+stays_on : (a : Part) (x : Result Part Refusal) → stays a x ≡ true → x ≡ Ok a
 unfolding stays
-stays_on a (Step.On b) h = ap Step.On (sym (part_back b) ∙ ap part_of (sym (eqb-true (number_of a) (number_of b) h)) ∙ part_back a)
-stays_on a Step.Empty h = absurd (clash false h refl)
-stays_on a Step.Bad h = absurd (clash false h refl)
+stays_on a (Ok b) h = ap Ok (sym (part_back b) ∙ ap part_of (sym (eqb-true (number_of a) (number_of b) h)) ∙ part_back a)
+stays_on a (Err f) h = absurd (clash false h refl)
 
 -- what the bytes of a part's set do, which is computed over all of them
-all_stay : (a : Part) → all_below 128 (λ b. not (in_set (staying a) b) || stays a (step_by a (letter_of b))) ≡ true
+all_stay : (q : Position) (a : Part) → all_below 128 (λ b. not (in_set (staying a) b) || stays a (step_by q b a (letter_of b))) ≡ true
 unfolding all_below in_set staying stays number_of step_by letter_of letters said within
-all_stay Part.First = refl
-all_stay Part.Next = refl
-all_stay Part.Digits = refl
-all_stay Part.Upper = refl
-all_stay Part.Lower = refl
+all_stay q Part.First = refl
+all_stay q Part.Next = refl
+all_stay q Part.Digits = refl
+all_stay q Part.Upper = refl
+all_stay q Part.Lower = refl
 
 -- so a part passes over them at once; behind the span's end nothing changes either
 pub part_passes : (q : Position) (e : Place) (part : Part) (s : List ℕ) (p : Place)
     → parts_from q e part (chars_from s p) ≡ parts_from q e part (chars_from s (run_end s (staying part) p))
 part_passes q e part s p = run_strides_plain s (staying part) p (λ (r : Place). parts_from q e part (chars_from s r)) one
   where
-    one : (r : Place) → in_set (staying part) (byte_at s r) ≡ true → char_at s r ≡ Char (byte_at s r) (on_by 1 r)
+    one : (r : Place) → in_set (staying part) (byte_at s r) ≡ true → char_at s r ≡ Ok (Some (byte_at s r, on_by 1 r))
         → parts_from q e part (chars_from s r) ≡ parts_from q e part (chars_from s (on_by 1 r))
     one r m g = go (leb e.0 r.0) refl
       where
@@ -140,4 +135,4 @@ part_passes q e part s p = run_strides_plain s (staying part) p (λ (r : Place).
             parts_ended q e part s r l ∙ sym (parts_ended q e part s (on_by 1 r) (omega arith))
         go false h =
             parts_on q e part s r (leb-false e.0 r.0 h) (byte_at s r) (on_by 1 r) g part
-            (stays_on part _ (each_of_set (staying part) (λ (b : ℕ). stays part (step_by part (letter_of b))) (all_stay part) _ m))
+            (stays_on part _ (each_of_set (staying part) (λ (b : ℕ). stays part (step_by q b part (letter_of b))) (all_stay q part) _ m))

@@ -6,7 +6,7 @@ mod parts;
 pub use parts::check_parts;
 
 // What a character is to an identifier.
-#[derive(Clone, Copy)]
+#[derive(Clone, Copy, Debug, PartialEq, Eq)]
 pub enum Letter {
     Dash,
     Digit,
@@ -17,19 +17,11 @@ pub enum Letter {
 
 // Where in the parts of an identifier the walk stands: at the start of the first part, at the start of a later one,
 // in a part that has digits alone so far, or in one whose letters are of this case.
-#[derive(Clone, Copy)]
+#[derive(Clone, Copy, Debug, PartialEq, Eq)]
 pub enum Part {
     First,
     Next,
     Digits,
     Upper,
     Lower,
-}
-
-// What a character does: the walk goes on, a part is empty, or the character is bad.
-#[derive(Clone, Copy)]
-pub enum Step {
-    On(Part),
-    Empty,
-    Bad,
 }

@@ -4,9 +4,9 @@ ghost use Rattle.chars.specs.View.{chars_from};
 ghost use Rattle.parts.specs.Parts.{letter_of, step_by, ended_by, parts_from};
 ghost use Rattle.parts.specs.inner.Runs;
 
-use crate::{Letter, Part, Step};
+use crate::{Letter, Part};
 use answers::{Place, Position, Refusal, Verdict};
-use chars::{AsciiSet, Read};
+use chars::AsciiSet;
 
 #[tactic(auto, unfolding(crate::specs::Parts::letter_of, crate::specs::Parts::letters, terms::specs::Terms::said, terms::specs::Terms::within))]
 fn letter_of(c: u32) -> Letter
@@ -21,91 +21,45 @@ fn letter_of(c: u32) -> Letter
     }
 }
 
-// A `-`: it ends a part that is not empty.
-fn at_dash(part: Part) -> Step
-    ensures { result ≡ step_by part Letter.Dash }
+// What a character does: a `-` ends a part that is not empty; a digit may stand anywhere but at the start of the first
+// part, and a letter anywhere but in a part whose letters are of the other case. Refusals stand at the span's start.
+#[tactic(auto, unfolding(crate::specs::Parts::step_by))]
+fn step_by(start: Position, part: Part, c: u32) -> Result<Part, Refusal>
+    ensures { result ≡ step_by start c part (letter_of c) }
 {
-    match part {
-        Part::First => Step::Empty,
-        Part::Next => Step::Empty,
-        Part::Digits => Step::On(Part::Next),
-        Part::Upper => Step::On(Part::Next),
-        Part::Lower => Step::On(Part::Next),
-    }
-}
-
-// A digit: it may stand anywhere but at the start of the first part.
-fn at_digit(part: Part) -> Step
-    ensures { result ≡ step_by part Letter.Digit }
-{
-    match part {
-        Part::First => Step::Bad,
-        Part::Next => Step::On(Part::Digits),
-        Part::Digits => Step::On(Part::Digits),
-        Part::Upper => Step::On(Part::Upper),
-        Part::Lower => Step::On(Part::Lower),
-    }
-}
-
-// An uppercase letter: not in a part whose letters are lowercase.
-fn at_upper(part: Part) -> Step
-    ensures { result ≡ step_by part Letter.Upper }
-{
-    match part {
-        Part::First => Step::On(Part::Upper),
-        Part::Next => Step::On(Part::Upper),
-        Part::Digits => Step::On(Part::Upper),
-        Part::Upper => Step::On(Part::Upper),
-        Part::Lower => Step::Bad,
-    }
-}
-
-// A lowercase letter: not in a part whose letters are uppercase.
-fn at_lower(part: Part) -> Step
-    ensures { result ≡ step_by part Letter.Lower }
-{
-    match part {
-        Part::First => Step::On(Part::Lower),
-        Part::Next => Step::On(Part::Lower),
-        Part::Digits => Step::On(Part::Lower),
-        Part::Upper => Step::Bad,
-        Part::Lower => Step::On(Part::Lower),
-    }
-}
-
-// What a character does.
-fn step_by(part: Part, c: u32) -> Step
-    ensures { result ≡ step_by part (letter_of c) }
-{
-    match letter_of(c) {
-        Letter::Dash => at_dash(part),
-        Letter::Digit => at_digit(part),
-        Letter::Upper => at_upper(part),
-        Letter::Lower => at_lower(part),
-        Letter::Other => Step::Bad,
+    match (part, letter_of(c)) {
+        (Part::First, Letter::Dash) => Err(Refusal::IdPartEmpty(start)),
+        (Part::Next, Letter::Dash) => Err(Refusal::IdPartEmpty(start)),
+        (_, Letter::Dash) => Ok(Part::Next),
+        (Part::First, Letter::Digit) => Err(Refusal::InvalidCharInId(start, c)),
+        (Part::Next, Letter::Digit) => Ok(Part::Digits),
+        (_, Letter::Digit) => Ok(part),
+        (Part::Lower, Letter::Upper) => Err(Refusal::InvalidCharInId(start, c)),
+        (_, Letter::Upper) => Ok(Part::Upper),
+        (Part::Upper, Letter::Lower) => Err(Refusal::InvalidCharInId(start, c)),
+        (_, Letter::Lower) => Ok(Part::Lower),
+        (_, Letter::Other) => Err(Refusal::InvalidCharInId(start, c)),
     }
 }
 
 // Where an identifier may end: behind a part that is not empty.
+#[tactic(auto, unfolding(crate::specs::Parts::ended_by))]
 fn ended_by(start: Position, part: Part) -> Verdict
     ensures { result ≡ ended_by start part }
 {
     match part {
-        Part::First => Verdict::Refused(Refusal::IdPartEmpty(start)),
-        Part::Next => Verdict::Refused(Refusal::IdPartEmpty(start)),
-        Part::Digits => Verdict::Accepted,
-        Part::Upper => Verdict::Accepted,
-        Part::Lower => Verdict::Accepted,
+        Part::First | Part::Next => Err(Refusal::IdPartEmpty(start)),
+        Part::Digits | Part::Upper | Part::Lower => Ok(()),
     }
 }
 
 // The bytes that leave a part as it is.
+#[tactic(auto, unfolding(crate::specs::inner::Runs::staying))]
 fn staying(part: Part) -> AsciiSet
     ensures { result ≡ Runs.staying part }
 {
     match part {
-        Part::First => AsciiSet { low: 0, high: 0 },
-        Part::Next => AsciiSet { low: 0, high: 0 },
+        Part::First | Part::Next => AsciiSet { low: 0, high: 0 },
         Part::Digits => AsciiSet {
             low: 0x03FF_0000_0000_0000,
             high: 0,
@@ -127,30 +81,12 @@ pub fn check_parts(text: &[u8], start: Position, from: Place, end: Place) -> Ver
 {
     let mut at = from;
     let mut part = Part::First;
-    loop {
-        let here = chars::run_end(text, at, staying(part));
-        if end.0 <= here.0 {
-            return ended_by(start, part);
-        }
-        match chars::read_at(text, here) {
-            Read::End => {
-                return ended_by(start, part);
-            }
-            Read::Ill(ill) => {
-                return Verdict::Refused(Refusal::IllFormed(ill));
-            }
-            Read::Char(c, next) => match step_by(part, c) {
-                Step::On(onward) => {
-                    part = onward;
-                    at = next;
-                }
-                Step::Empty => {
-                    return Verdict::Refused(Refusal::IdPartEmpty(start));
-                }
-                Step::Bad => {
-                    return Verdict::Refused(Refusal::InvalidCharInId(start, c));
-                }
-            },
-        }
+    while at.0 < end.0 {
+        let Some((c, next)) = chars::read_at(text, at)? else {
+            break;
+        };
+        part = step_by(start, part, c)?;
+        at = chars::run_end(text, next, staying(part));
     }
+    ended_by(start, part)
 }
