@@ -1,4 +1,5 @@
 -- From the tables of a sheet that passes its checks to the answer of `toposort`.
+use Rattle.std.specs.Prelude.{Err}
 use Prim.Native.Nat.{ℕ, ◌≤◌, ◌<◌}
 use mathlib.Core.Path.{◌≡◌}
 use mathlib.Core.List.{List}
@@ -6,7 +7,7 @@ use native.Mathlib.Nat.{zero-add}
 use native.Mathlib.Omega.{arith}
 use lib.ListN.{length}
 use borrow.Author.Tests.{le-leb, lt-leb}
-use Rattle.answers.specs.declared.Verdict.TheVariants.{Accepted, Refused}
+use Rattle.answers.specs.Caps.{accepted}
 use Rattle.answers.specs.declared.Refusal.{Refusal}
 use Rattle.answers.specs.declared.Refusal.TheVariants.{NoRoom}
 use Rattle.answers.proofs.CapsLaws.{first_refused, first_accepted}
@@ -18,7 +19,7 @@ use Rattle.sheets.proofs.EdgeLaws.{table_length, table_at}
 use Rattle.sheets.proofs.AcceptedLaws.{Accepts, target_in}
 use Rattle.clerk.specs.declared.Sorted.{Sorted}
 use Rattle.clerk.specs.Sorted.{answer, room_verdict, placed, placed_by, sorted}
-use Rattle.clerk.specs.inner.State.{Rows}
+use Rattle.clerk.specs.inner.Rows.{Rows}
 
 pub rows_of : (ws bs os ts : List ℕ) → Accepts ws bs → os ≡ owners_of ws (listed ws) → ts ≡ targets_of ws bs (listed ws) → Rows os ts
 rows_of ws bs os ts a p q = record {
@@ -36,12 +37,12 @@ module _ (ws bs out : List ℕ) where
   abbrev Answered : Sorted → List ℕ → Type 0
   Answered r out' = ◌≡◌ {A = Sorted × List ℕ} (r, out') (sorted ws bs out)
 
-  pub refuse_sheet : (f : Refusal) → sheet_verdict ws bs ≡ Refused f → Answered (answer (Refused f) 0) out
+  pub refuse_sheet : (f : Refusal) → sheet_verdict ws bs ≡ Err f → Answered (answer (Err f) 0) out
   unfolding sorted placed_by
   refuse_sheet f e = rw (first_refused (sheet_verdict ws bs) (room_verdict ws out) f e)
 
-  module _ (ok : sheet_verdict ws bs ≡ Accepted) where
-    pub refuse_room : length out < items ws → Answered (answer (Refused (NoRoom (items ws))) 0) out
+  module _ (ok : sheet_verdict ws bs ≡ accepted) where
+    pub refuse_room : length out < items ws → Answered (answer (Err (NoRoom (items ws))) 0) out
     unfolding sorted placed_by room_verdict
     refuse_room l = rw (first_accepted (sheet_verdict ws bs) (room_verdict ws out) ok, lt-leb (items ws) (length out) l)
 

@@ -1,4 +1,5 @@
 -- The laws of the placing, and the theorems about the answer.
+mod RowLaws
 mod StateLaws
 mod Tallied
 mod Taking

@@ -12,11 +12,16 @@ use borrow.Author.Tests.{eq-eqb, ne_eqb, eqb-true, eqb-false}
 use Rattle.terms.specs.Terms.{bit, first, count, member}
 use Rattle.terms.proofs.FirstLaws.{first_le, first_from, first_passes, none_before}
 use Rattle.terms.proofs.CountLaws.{count_at, count_end, count_le, member_snoc}
-use Rattle.graph.specs.Order.{Edge, edges, no_edge, waits}
+use Rattle.graph.specs.Order.{Edge, edges, no_edge, waits, is_settled}
 use Rattle.graph.proofs.OrderLaws.{edges_at, edges_length, hits, names, unmet_snoc, settled_snoc}
 use Rattle.clerk.specs.declared.State.{State}
-use Rattle.sheets.specs.inner.Bytes.{holds}
+use Rattle.sheets.specs.inner.Bytes.{holds, byte_from}
+use Rattle.sheets.specs.inner.Found.{before}
+use Rattle.sheets.proofs.FoundLaws.{index_found, end_reached}
 use Rattle.clerk.specs.inner.State.{placed_of, Tracks, Placed}
+use Rattle.clerk.specs.inner.Rows.{Rows}
+use Rattle.clerk.proofs.RowLaws.{row_edge, row_in, row_few, row_count}
+use Rattle.std.specs.Prelude.{Option, Some, None}
 
 pub record Taking (es : List Edge) (x : ℕ) (l₀ : List ℕ) (n₀ : ℕ) (l : List ℕ) (n k : ℕ) : Type 0 where
   pub counts : (i : ℕ) → i < 256 → get_or l i 0 + count (hits x i) es ≡ get_or l₀ i 0 + count (hits x i) (drop k es)
@@ -111,11 +116,50 @@ stands_next os ts x l₀ n₀ l n k r even τ in-ts e = record {
         eqb-false (get_or ts j 0) x (none_before (holds ts x) (length ts - k) k j a (omega (arith, onto)))
         (sym (ap (λ (d : Edge). d.target) (edges_at os ts j even (omega (arith, onto, below)))) ∙ q)
 
+-- the loop of `place`: its turn at the next edge that names x, and its end
+module _ (os ts : List ℕ) (rows : Rows os ts) (s : State) (x : ℕ) (tr : Tracks (edges os ts) s) (xl : x < 256) (new : member x (placed_of s) ≡ false)
+    (l : List ℕ) (n from : ℕ) (τ : Taking (edges os ts) x s.left s.settled l n from) (within : from ≤ length ts) where
+  stands : (r : ℕ) → r ≡ byte_from ts from x → Stands os ts x s.left s.settled l n r
+  stands r e = stands_next os ts x s.left s.settled l n from r rows.even τ within e
+
+  module _ (k : ℕ) (got : Some k ≡ before (length ts) (byte_from ts from x)) where
+    at : Stands os ts x s.left s.settled l n k
+    at = stands k (index_found (length ts) (byte_from ts from x) k got).0
+
+    pub hit_in : (from ≤ k) × (k < length ts)
+    unfolding holds
+    hit_in =
+        let f = index_found (length ts) (byte_from ts from x) k got in
+        let e : k ≡ byte_from ts from x = f.0 in
+        (omega (arith, first_from (holds ts x) (length ts - from) from), f.1)
+
+    in_owners : k < length os
+    in_owners = omega (arith, rows.even, hit_in.1)
+
+    pub hit_left : 1 ≤ get_or l (get_or os k 0) 0
+    hit_left =
+        taking_some (edges os ts) x s.left s.settled l n k at.taking (get_or os k 0) (get_or ts k 0) (row_in os ts rows k in_owners) (row_edge os ts rows k in_owners)
+        (rows.owners k in_owners) (at.named hit_in.1)
+        (omega (arith, tr.left (get_or os k 0) (rows.owners k in_owners), unmet_snoc (edges os ts) (placed_of s) x (get_or os k 0) new))
+
+    pub hit_more : Taking (edges os ts) x s.left s.settled (set l (get_or os k 0) (get_or l (get_or os k 0) 0 - 1)) (n + 1) (k + 1)
+    hit_more =
+        taking_hit (edges os ts) x s.left s.settled l n k at.taking (get_or os k 0) (get_or ts k 0) (row_in os ts rows k in_owners) (row_edge os ts rows k in_owners)
+        (rows.owners k in_owners) (at.named hit_in.1) hit_left
+
+  pub hits_few : n ≤ 4096
+  hits_few =
+      omega (arith, τ.names_left, row_few os ts rows, tr.counted, count_le (names x) (edges os ts), count_le (is_settled (placed_of s)) (edges os ts))
+
+  pub hits_end : ◌≡◌ {A = Option ℕ} None (before (length ts) (byte_from ts from x)) → (k : ℕ) × (length (edges os ts) ≤ k) × Taking (edges os ts) x s.left s.settled l n k
+  hits_end e = (
+    byte_from ts from x,
+    omega (arith, end_reached (length ts) (byte_from ts from x) e, row_count os ts rows, rows.even),
+    (stands (byte_from ts from x) refl).taking,
+  )
+
 -- from the loop's end to what `place` promises
 module _ (es : List Edge) (s : State) (x : ℕ) (tr : Tracks es s) (room : s.placed < 256) (xl : x < 256) (new : member x (placed_of s) ≡ false) where
-  pub enough : (i : ℕ) → i < 256 → count (hits x i) es ≤ get_or s.left i 0
-  enough i h = omega (arith, tr.left i h, unmet_snoc es (placed_of s) x i new)
-
   -- no count reaches 16 bits
   pub small : (l : List ℕ) (n k : ℕ) → Taking es x s.left s.settled l n k → length es ≤ k → get_or l x 0 ≤ 2048
   small l n k τ end =
@@ -133,6 +177,7 @@ module _ (es : List Edge) (s : State) (x : ℕ) (tr : Tracks es s) (room : s.pla
     };
     more = refl;
     adds = grows;
+    long = length-set s.order s.placed x;
   }
     where
       grows : take (s.placed + 1) (set s.order s.placed x) ≡ placed_of s ++ (x ∷ [])

@@ -1,5 +1,6 @@
 -- What the answer says, in the words of demand 3: an order exactly if no chain of dependencies leads from an item to itself, what that order is, which
 -- edge 30 names, and what the settled count counts.
+use Rattle.std.specs.Prelude.{Ok, Err}
 use Prim.Native.Nat.{ℕ, ◌+◌, ◌≤◌, ◌<◌}
 use mathlib.Core.Path.{◌≡◌, refl, sym, ap, ◌∙◌}
 use mathlib.Core.Bool.{Bool, true, false}
@@ -13,11 +14,9 @@ use borrow.Author.Tests.{eq-eqb, ne_eqb, eqb-true}
 use Rattle.terms.specs.Terms.{bit, count, over}
 use Rattle.terms.proofs.FirstLaws.{first_passes, none_before}
 use Rattle.terms.proofs.CountLaws.{count_le, mem_at}
-use Rattle.answers.specs.declared.Verdict.{Verdict}
-use Rattle.answers.specs.declared.Verdict.TheVariants.{Accepted, Refused}
 use Rattle.answers.specs.declared.Refusal.{Refusal}
 use Rattle.answers.specs.declared.Refusal.TheVariants.{TypeCycle}
-use Rattle.answers.specs.Caps.{first_of}
+use Rattle.answers.specs.Caps.{first_of, Verdict, accepted}
 use Rattle.answers.proofs.CapsLaws.{first_both, refused_not}
 use Rattle.graph.specs.Order.{Edge, no_edge, order, is_settled, settled, is_stuck, stuck_at, first_stuck}
 use Rattle.graph.specs.Chain.{Acyclic, Targeted, Permutation, Ordered}
@@ -64,30 +63,30 @@ module _ (ws bs : List ℕ) where
 
     -- the checks before the placing pass
     abbrev pub Passes : Type 0
-    Passes = first_of (sheet_verdict ws bs) (room_verdict ws out) ≡ Accepted
+    Passes = first_of (sheet_verdict ws bs) (room_verdict ws out) ≡ accepted
 
     passes_placed : Passes → sorted ws bs out ≡ placed (edges_of ws bs) (items ws) out
     unfolding sorted placed_by
     passes_placed p = rw p
 
-    pub accepted_passes : Verdict-is Accepted → Passes
+    pub accepted_passes : Verdict-is accepted → Passes
     unfolding sorted placed_by
     accepted_passes e = go (first_of (sheet_verdict ws bs) (room_verdict ws out)) e
       where
-        go : (v : Verdict) → (placed_by v (edges_of ws bs) (items ws) out).0.verdict ≡ Accepted → v ≡ Accepted
-        go Accepted q = refl
-        go (Refused f) q = absurd (refused_not q)
+        go : (v : Verdict) → (placed_by v (edges_of ws bs) (items ws) out).0.verdict ≡ accepted → v ≡ accepted
+        go (Ok _) q = refl
+        go (Err f) q = absurd (refused_not q)
 
-    pub accepted_whole : Passes → Verdict-is Accepted → length the_order ≡ items ws
+    pub accepted_whole : Passes → Verdict-is accepted → length the_order ≡ items ws
     unfolding placed
     accepted_whole p e = go (eqb (length the_order) (items ws)) refl (rw (passes_placed p) at e)
       where
-        go : (b : Bool) → eqb (length the_order) (items ws) ≡ b → (placed (edges_of ws bs) (items ws) out).0.verdict ≡ Accepted → length the_order ≡ items ws
+        go : (b : Bool) → eqb (length the_order) (items ws) ≡ b → (placed (edges_of ws bs) (items ws) out).0.verdict ≡ accepted → length the_order ≡ items ws
         go true q h = eqb-true (length the_order) (items ws) q
         go false q h = absurd (refused_not (rw q at h))
 
     -- AN ORDER COMES BACK EXACTLY IF NO CHAIN OF DEPENDENCIES LEADS FROM AN ITEM TO ITSELF, of every sheet that the checks pass
-    pub order_exactly_if_acyclic : Passes → Verdict-is Accepted ↔ Acyclic (edges_of ws bs) (items ws)
+    pub order_exactly_if_acyclic : Passes → Verdict-is accepted ↔ Acyclic (edges_of ws bs) (items ws)
     unfolding placed
     order_exactly_if_acyclic p = (
       λ e. whole_acyclic (edges_of ws bs) (items ws) (accepted_whole p e),
@@ -102,7 +101,7 @@ module _ (ws bs : List ℕ) where
       pub permutation : Permutation (items ws) the_order
       pub ordered : Ordered (edges_of ws bs) the_order
 
-    pub accepted_in_order : Verdict-is Accepted → InOrder (sorted ws bs out).1
+    pub accepted_in_order : Verdict-is accepted → InOrder (sorted ws bs out).1
     unfolding placed
     accepted_in_order e =
         let p = accepted_passes e in
@@ -114,13 +113,13 @@ module _ (ws bs : List ℕ) where
         }
 
     -- every refusal leaves the slice as it was
-    pub refused_unchanged : (f : Refusal) → Verdict-is (Refused f) → (sorted ws bs out).1 ≡ out
+    pub refused_unchanged : (f : Refusal) → Verdict-is (Err f) → (sorted ws bs out).1 ≡ out
     unfolding sorted placed_by placed
     refused_unchanged f e = go (first_of (sheet_verdict ws bs) (room_verdict ws out)) e
       where
-        go : (v : Verdict) → (placed_by v (edges_of ws bs) (items ws) out).0.verdict ≡ Refused f → (placed_by v (edges_of ws bs) (items ws) out).1 ≡ out
-        go (Refused g) q = refl
-        go Accepted q = by (eqb (length the_order) (items ws)) refl
+        go : (v : Verdict) → (placed_by v (edges_of ws bs) (items ws) out).0.verdict ≡ Err f → (placed_by v (edges_of ws bs) (items ws) out).1 ≡ out
+        go (Err g) q = refl
+        go (Ok _) q = by (eqb (length the_order) (items ws)) refl
           where
             by : (b : Bool) → eqb (length the_order) (items ws) ≡ b → (placed (edges_of ws bs) (items ws) out).1 ≡ out
             by true t = absurd (refused_not (sym (rw t at q)))
@@ -132,8 +131,8 @@ module _ (ws bs : List ℕ) where
       pub stuck : is_stuck the_order (get_or (edges_of ws bs) k no_edge) ≡ true
       pub earliest : (j : ℕ) → j < k → is_stuck the_order (get_or (edges_of ws bs) j no_edge) ≡ false
 
-    pub cycle_names_stuck : Passes → (Verdict-is Accepted → ⊥)
-        → Verdict-is (Refused (TypeCycle (first_stuck (edges_of ws bs) the_order))) × NamesStuck (first_stuck (edges_of ws bs) the_order)
+    pub cycle_names_stuck : Passes → (Verdict-is accepted → ⊥)
+        → Verdict-is (Err (TypeCycle (first_stuck (edges_of ws bs) the_order))) × NamesStuck (first_stuck (edges_of ws bs) the_order)
     unfolding placed
     cycle_names_stuck p no-order = (
       rw (passes_placed p, ne_eqb (length the_order) (items ws) short),
@@ -159,7 +158,7 @@ module _ (ws bs : List ℕ) where
     pub settled_at_most : Passes → (sorted ws bs out).0.settled ≤ listed ws
     settled_at_most p = omega (arith, settled_counts p, count_le (is_settled the_order) (edges_of ws bs), edges_listed)
 
-    pub refused_settles_none : (f : Refusal) → first_of (sheet_verdict ws bs) (room_verdict ws out) ≡ Refused f → (sorted ws bs out).0.settled ≡ 0
+    pub refused_settles_none : (f : Refusal) → first_of (sheet_verdict ws bs) (room_verdict ws out) ≡ Err f → (sorted ws bs out).0.settled ≡ 0
     unfolding sorted placed_by
     refused_settles_none f e = rw e
 

@@ -4,19 +4,30 @@
 mod placing;
 mod sorting;
 
-ghost use Rattle.std.specs.Prelude.{◌≡◌};
+ghost use Rattle.std.specs.Prelude.{◌≡◌, ◌≤◌};
 ghost use Rattle.clerk.specs.Sorted.{sorted};
+ghost use Rattle.clerk.specs.inner.Rows.{Rows};
 
 use answers::{Refusal, Verdict};
 
 // The verdict, and with 0 and 30 how many listed dependencies have a target that was placed; else 0.
-#[derive(Clone, Copy)]
+#[derive(Clone, Copy, Debug, PartialEq, Eq)]
 pub struct Sorted {
     pub verdict: Verdict,
     pub settled: u32,
 }
 
-// The state of the placing, handed through each step.
+// The edges of so many items, as two tables: edge k is one of item owners[k], and its target is item targets[k].
+#[derive(Clone, Copy)]
+pub struct Edges<'a> {
+    pub items: usize,
+    pub owners: &'a [u8],
+    pub targets: &'a [u8],
+    pub ghost few: { items ≤ 256 },
+    pub ghost rows: { Rows owners.now targets.now },
+}
+
+// The state of the placing.
 #[derive(Drop)]
 pub struct State {
     // of each item, how many of its edges have a target that is not placed; 4,096 more where the item itself is placed
@@ -34,13 +45,18 @@ pub fn toposort(sheet: &[u32], names: &[u8], order: &mut [u32]) -> Sorted
 {
     let mut owners = [0u8; 2048];
     let mut targets = [0u8; 2048];
-    if let Verdict::Refused(refusal) = sheets::resolve(sheet, names, &mut owners, &mut targets) {
+    if let Err(refusal) = sheets::resolve(sheet, names, &mut owners, &mut targets) {
         return sorting::refused(refusal);
     }
-    let n = sheet[0] as usize;
+    let items = sheet[0] as usize;
     let listed = sheet[1] as usize;
-    if order.len() < n {
+    if order.len() < items {
         return sorting::refused(Refusal::NoRoom(sheet[0]));
     }
-    sorting::sort(&owners[0..listed], &targets[0..listed], n, order)
+    let edges = Edges {
+        items,
+        owners: &owners[..listed],
+        targets: &targets[..listed],
+    };
+    sorting::sort(edges, order)
 }

@@ -1,106 +1,91 @@
-//! The placing: the counts of all items travel in one record by value, and the edges are scanned at each step.
-ghost use Rattle.std.specs.Prelude.{◌≡◌, false, ◌<◌, ◌≤◌};
+//! The placing: one item after another, and at each the edges that name it are scanned.
+ghost use Rattle.std.specs.Prelude.{◌≡◌, false, ◌<◌, ◌≤◌, length, get_or, ltb};
 ghost use Rattle.terms.specs.Terms.{first, member};
-ghost use Rattle.graph.specs.Order.{edges, first_stuck};
-ghost use Rattle.clerk.specs.inner.State.{placed_of, free, Rows, Tracks, Placed, Blank, Ran};
+ghost use Rattle.graph.specs.Order.{first_stuck};
+ghost use Rattle.sheets.specs.inner.Found.{before};
+ghost use Rattle.clerk.specs.inner.Listed.{edges_in};
+ghost use Rattle.clerk.specs.inner.State.{placed_of, free, Tracks, Placed, Blank, Ran};
 
-use crate::State;
+use crate::{Edges, State};
 
-// Nothing is placed, and nothing counted.
-fn blank() -> State
-    ensures { Blank result }
-{
-    State {
-        left: [0; 256],
-        order: [0; 256],
-        placed: 0,
-        settled: 0,
-    }
-}
-
-// No item is placed: each item's count is its edges.
-fn start<'a>(owners: &'a [u8], targets: &'a [u8]) -> State
-    requires { Rows owners.now targets.now }
-    ensures { Tracks (edges owners.now targets.now) result × (result.placed ≡ 0) }
-{
-    let mut s = blank();
-    let mut k = 0;
-    while k < owners.len() {
-        let o = owners[k] as usize;
-        s.left[o] = s.left[o] + 1;
-        k += 1;
-    }
-    s
-}
-
-// The earliest item below n whose count is 0; n where there is none.
-fn next_item(left: &[u16; 256], n: usize) -> usize
-    requires { n ≤ 256 }
-    ensures { result ≡ first (free left.now) 0 n }
-{
-    let mut i = 0;
-    while i < n {
-        if left[i] == 0 {
-            return i;
+impl State {
+    // Nothing is placed, and nothing counted.
+    fn blank() -> Self
+        ensures { Blank result }
+    {
+        State {
+            left: [0; 256],
+            order: [0; 256],
+            placed: 0,
+            settled: 0,
         }
-        i += 1;
     }
-    i
-}
 
-// Item x is placed: each edge that names it is taken off its item's count, and settled.
-fn place<'a>(s: State, owners: &'a [u8], targets: &'a [u8], x: u8) -> State
-    requires rows { Rows owners.now targets.now }
-    requires tracks { Tracks (edges owners.now targets.now) s × (s.placed < 256) × (member x (placed_of s) ≡ false) }
-    ensures { Placed (edges owners.now targets.now) s x result }
-{
-    let mut t = s;
-    let mut k = sheets::byte_from(targets, 0, x);
-    while k < targets.len() {
-        let o = owners[k] as usize;
-        t.left[o] = t.left[o] - 1;
-        t.settled = t.settled + 1;
-        k = sheets::byte_from(targets, k + 1, x);
-    }
-    let i = x as usize;
-    let at = t.placed;
-    t.left[i] = t.left[i] + 4096;
-    t.order[at] = x;
-    t.placed = at + 1;
-    t
-}
-
-// Items are placed until none can be.
-pub(crate) fn run<'a>(owners: &'a [u8], targets: &'a [u8], n: usize) -> State
-    requires { Rows owners.now targets.now × (n ≤ 256) }
-    ensures { Ran (edges owners.now targets.now) n result }
-{
-    let mut s = start(owners, targets);
-    while s.placed < n {
-        let i = next_item(&s.left, n);
-        if i == n {
-            return s;
+    // No item is placed: each item's count is its edges.
+    fn start(edges: Edges) -> Self
+        ensures { Tracks (edges_in edges.entry) result × (result.placed ≡ 0) }
+    {
+        let mut s = State::blank();
+        for o in edges.owners {
+            s.left[*o as usize] += 1;
         }
-        s = place(s, owners, targets, i as u8);
+        s
     }
-    s
-}
 
-// The first edge whose item and target both stayed unplaced; the number of edges where there is none.
-pub(crate) fn first_stuck<'a>(s: State, owners: &'a [u8], targets: &'a [u8]) -> usize
-    requires { Rows owners.now targets.now × Tracks (edges owners.now targets.now) s }
-    ensures { result ≡ first_stuck (edges owners.now targets.now) (placed_of s) }
-{
-    let mut k = 0;
-    while k < owners.len() {
-        let o = owners[k] as usize;
-        let t = targets[k] as usize;
-        if s.left[o] < 4096 {
-            if s.left[t] < 4096 {
-                return k;
+    // The earliest item below n whose count is 0.
+    fn next(&self, n: usize) -> Option<usize>
+        requires { n ≤ 256 }
+        ensures { result ≡ before n (first (free self.now.left) 0 n) }
+    {
+        self.left[..n].iter().position(|count| *count == 0)
+    }
+
+    // Item x is placed: each edge that names it is taken off its item's count, and settled.
+    fn place(&mut self, edges: Edges, x: u8)
+        requires { Tracks (edges_in edges) self.old × (self.old.placed < 256) × (member x (placed_of self.old) ≡ false) }
+        ensures { Placed (edges_in edges.entry) self.old x self.new }
+    {
+        let mut from = 0;
+        while let Some(k) = sheets::byte_from(edges.targets, from, x) {
+            self.left[edges.owners[k] as usize] -= 1;
+            self.settled += 1;
+            from = k + 1;
+        }
+        self.left[x as usize] += 4096;
+        self.order[self.placed] = x;
+        self.placed += 1;
+    }
+
+    // Items are placed until none can be.
+    pub(crate) fn run(edges: Edges) -> Self
+        ensures { Ran (edges_in edges.entry) edges.entry.items result }
+    {
+        let mut s = State::start(edges);
+        while s.placed < edges.items {
+            let Some(i) = s.next(edges.items) else {
+                return s;
+            };
+            s.place(edges, i as u8);
+        }
+        s
+    }
+
+    fn is_unplaced(&self, i: u8) -> bool
+        ensures { result ≡ ltb (get_or self.now.left i 0) 4096 }
+    {
+        self.left[i as usize] < 4096
+    }
+
+    // The first edge whose item and target both stayed unplaced.
+    pub(crate) fn first_stuck(&self, edges: Edges) -> Option<usize>
+        requires { Tracks (edges_in edges) self.now }
+        ensures { result ≡ before (length (edges_in edges.entry)) (first_stuck (edges_in edges.entry) (placed_of self.now)) }
+    {
+        for k in 0..edges.owners.len() {
+            if self.is_unplaced(edges.owners[k]) && self.is_unplaced(edges.targets[k]) {
+                return Some(k);
             }
         }
-        k += 1;
+        None
     }
-    k
 }

@@ -1,7 +1,7 @@
 -- What a sheet that passes every check has, and the tables that `resolve` then leaves.
 use Rattle.std.specs.Prelude.{Ok, Err}
 use Prim.Native.Nat.{ℕ, ◌≤◌, ◌<◌}
-use mathlib.Core.Path.{◌≡◌, refl}
+use mathlib.Core.Path.{◌≡◌, refl, sym, ◌∙◌}
 use mathlib.Core.List.{List}
 use native.Mathlib.Omega.{arith}
 use lib.ListN.{length, take, drop}
@@ -56,6 +56,14 @@ module _ (ws bs : List ℕ) where
         go : (v : Verdict) → items_verdict ws bs ≡ v → first_of (first_of v (tables_verdict ws os ts)) (target_verdict ws bs) ≡ first_of v (target_verdict ws bs)
         go (Ok _) e = rw (tables_fit e)
         go (Err f) e = refl
+
+    -- what `resolve` answers to them is the verdict on the sheet
+    module _ (r : Verdict) (os' ts' : List ℕ) (done : Resolved ws bs os ts r os' ts') where
+      pub resolved_verdict : sheet_verdict ws bs ≡ r
+      resolved_verdict = sym (done.verdict ∙ tables_verdict_lem)
+
+      pub resolved_accepts : r ≡ accepted → Accepts ws bs
+      resolved_accepts e = accepts_of (resolved_verdict ∙ e)
 
     module _ (ok : sheet_verdict ws bs ≡ accepted) where
       all_resolved : resolved ws bs os ts ≡ listed ws

@@ -12,13 +12,6 @@ placed_of s = take s.placed s.order
 unfoldable pub free : List ℕ → ℕ → Bool
 free left i = eqb (get_or left i 0) 0
 
--- As many items as targets, not more than 2,048, and each of them below 256.
-pub record Rows (os ts : List ℕ) : Type 0 where
-  pub even : length os ≡ length ts
-  pub few : length os ≤ 2048
-  pub owners : (k : ℕ) → k < length os → get_or os k 0 < 256
-  pub targets : (k : ℕ) → k < length os → get_or ts k 0 < 256
-
 -- Each item's count is the definition's, and 4,096 more where it is placed; the settled count is the definition's.
 pub record Tracks (es : List Edge) (s : State) : Type 0 where
   pub left : (i : ℕ) → i < 256 → get_or s.left i 0 ≡ unmet es (placed_of s) i + 4096 * bit (member i (placed_of s))
@@ -31,6 +24,7 @@ pub record Placed (es : List Edge) (s : State) (x : ℕ) (r : State) : Type 0 wh
   pub tracks : Tracks es r
   pub more : r.placed ≡ s.placed + 1
   pub adds : placed_of r ≡ placed_of s ++ (x ∷ [])
+  pub long : length r.order ≡ length s.order
 
 -- Nothing is placed, and nothing counted.
 pub record Blank (s : State) : Type 0 where
