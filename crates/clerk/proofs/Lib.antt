@@ -1,5 +1,5 @@
 -- The laws of the placing, and the theorems about the answer.
-mod RowLaws
+pub mod RowLaws
 mod StateLaws
 mod Tallied
 mod Taking

@@ -1,5 +1,5 @@
 -- A list is accepted exactly if it is a load order; no first fault lies past index n; and what has a load order has no chain from an item to itself.
-use Rattle.std.specs.Prelude.{if◌then◌else◌}
+use Rattle.std.specs.Prelude.{if◌then◌else◌, Err}
 use Prim.Native.Nat.{ℕ, zero, suc, ◌≤◌, ◌<◌}
 use mathlib.Core.Path.{◌≡◌, refl, sym, ◌∙◌}
 use mathlib.Core.Bool.{Bool, true, false, not, ◌&&◌, and-false}
@@ -14,7 +14,7 @@ use Rattle.terms.specs.Terms.{bit, count, member}
 use Rattle.terms.proofs.TestLaws.{and_both, or_neither, clash, fails}
 use Rattle.terms.proofs.FirstLaws.{first_le, none_before, first_is}
 use Rattle.terms.proofs.CountLaws.{bit_le, count_at, count_parts, member_at, at_member, member_counted}
-use Rattle.answers.specs.declared.Verdict.TheVariants.{Accepted, Refused}
+use Rattle.answers.specs.Caps.{accepted}
 use Rattle.answers.specs.declared.Refusal.TheVariants.{NotAnOrder}
 use Rattle.answers.proofs.CapsLaws.{accepted_if}
 use Rattle.graph.specs.Order.{Edge, unmet}
@@ -70,26 +70,26 @@ module _ (es : List Edge) (n : ℕ) (xs : List ℕ) where
 
   -- the two returns of `check_list`
   module _ (fault : ℕ) (q : fault ≡ first_fault es n xs) where
-    pub accepts : length xs ≡ n → fault ≡ n → Accepted ≡ list_verdict es n xs
+    pub accepts : length xs ≡ n → fault ≡ n → accepted ≡ list_verdict es n xs
     unfolding list_verdict
     accepts l f = rw (eq-eqb (length xs) n l, eq-eqb (first_fault es n xs) n (sym q ∙ f))
 
-    pub refuses : (length xs ≡ n → ⊥) ⊎ (fault ≡ n → ⊥) → Refused (NotAnOrder fault) ≡ list_verdict es n xs
+    pub refuses : (length xs ≡ n → ⊥) ⊎ (fault ≡ n → ⊥) → Err (NotAnOrder fault) ≡ list_verdict es n xs
     unfolding list_verdict
     refuses (inl l) = rw (q, ne_eqb (length xs) n l)
     refuses (inr f) = rw (q, ne_eqb (first_fault es n xs) n (λ e. f (q ∙ e)), and-false (eqb (length xs) n))
 
   -- a list that is not accepted is refused there
-  pub refused_at : (list_verdict es n xs ≡ Accepted → ⊥) → list_verdict es n xs ≡ Refused (NotAnOrder (first_fault es n xs))
+  pub refused_at : (list_verdict es n xs ≡ accepted → ⊥) → list_verdict es n xs ≡ Err (NotAnOrder (first_fault es n xs))
   unfolding list_verdict
   refused_at not = go whole not
     where
-      go : (b : Bool) → ((if b then Accepted else Refused (NotAnOrder (first_fault es n xs))) ≡ Accepted → ⊥)
-          → (if b then Accepted else Refused (NotAnOrder (first_fault es n xs))) ≡ Refused (NotAnOrder (first_fault es n xs))
+      go : (b : Bool) → ((if b then accepted else Err (NotAnOrder (first_fault es n xs))) ≡ accepted → ⊥)
+          → (if b then accepted else Err (NotAnOrder (first_fault es n xs))) ≡ Err (NotAnOrder (first_fault es n xs))
       go true h = absurd (h refl)
       go false h = refl
 
-  pub accepted_order : list_verdict es n xs ≡ Accepted → LoadOrder es n xs
+  pub accepted_order : list_verdict es n xs ≡ accepted → LoadOrder es n xs
   unfolding list_verdict too_early
   accepted_order e = record {
     permutation = distinct_whole n xs (rw (take_all (length xs) xs (omega arith)) at (fit_distinct n xs (length xs) (omega arith) (λ j l. (before_fault j (omega (arith, long, clean))).0))) long;
@@ -163,7 +163,7 @@ module _ (es : List Edge) (n : ℕ) (xs : List ℕ) where
             let wanted : count (eqb i.0) xs ≡ 1 = o.permutation i.0 ∙ rw (lt-ltb i.0 n i.1) in
             absurd (omega (arith, lacking, wanted))
 
-    pub order_accepted : list_verdict es n xs ≡ Accepted
+    pub order_accepted : list_verdict es n xs ≡ accepted
     unfolding list_verdict at_fault too_early
     order_accepted = rw (eq-eqb (length xs) n long_enough, eq-eqb (first_fault es n xs) n (clean ∙ long_enough))
       where

@@ -1,10 +1,8 @@
 -- 02, §6, "Load orders from headquarters": what a load order is, the check of a list of words that somebody proposes as one, and what our own proposer offers.
-use Rattle.std.specs.Prelude.{ℕ, Bool, not, ◌&&◌, ◌||◌, List, length, get_or, take, eqb, leb, if◌then◌else◌}
+use Rattle.std.specs.Prelude.{ℕ, Bool, not, ◌&&◌, ◌||◌, List, length, get_or, take, eqb, leb, if◌then◌else◌, Err}
 use Rattle.terms.specs.Terms.{first, member}
-use Rattle.answers.specs.declared.Verdict.{Verdict}
-use Rattle.answers.specs.declared.Verdict.TheVariants.{Accepted, Refused}
 use Rattle.answers.specs.declared.Refusal.TheVariants.{NotAnOrder}
-use Rattle.answers.specs.Caps.{first_of}
+use Rattle.answers.specs.Caps.{first_of, Verdict, accepted}
 use Rattle.graph.specs.Order.{Edge, unmet}
 use Rattle.graph.specs.Chain.{Permutation, Ordered}
 use Rattle.sheets.specs.Words.{items}
@@ -37,7 +35,7 @@ first_fault es n xs = first (at_fault es n xs) 0 (length xs)
 -- 33: an index is at fault, or the list has not as many words as there are items.
 unfoldable pub list_verdict : List Edge → ℕ → List ℕ → Verdict
 list_verdict es n xs =
-    if eqb (length xs) n && eqb (first_fault es n xs) n then Accepted else Refused (NotAnOrder (first_fault es n xs))
+    if eqb (length xs) n && eqb (first_fault es n xs) n then accepted else Err (NotAnOrder (first_fault es n xs))
 
 -- The checks of the sheet, 1 to 29; then 33.
 unfoldable pub checked_order : List ℕ → List ℕ → List ℕ → Verdict

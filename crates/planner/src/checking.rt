@@ -1,54 +1,50 @@
 //! The check of a list against edges: each edge is looked at once.
-ghost use Rattle.std.specs.Prelude.{◌≡◌, ◌&&◌, ◌≤◌, leb, ltb, if◌then◌else◌};
-ghost use Rattle.graph.specs.Order.{edges};
-ghost use Rattle.clerk.specs.inner.State.{Rows};
+ghost use Rattle.std.specs.Prelude.{◌≡◌};
+ghost use Rattle.clerk.specs.inner.Listed.{edges_in};
 ghost use Rattle.planner.specs.Proposed.{first_fault, list_verdict};
-ghost use Rattle.planner.specs.inner.Seats.{Filled};
+ghost use Rattle.planner.specs.inner.Seats.{sooner, Filled};
 
 use crate::seats;
 use crate::seats::Seats;
 use answers::{Refusal, Verdict};
+use clerk::Edges;
 
 // The sooner fault: the item's index where its target does not stand before it, or the fault that is known.
-fn sooner(item: u16, target: u16, fault: usize) -> usize
-    ensures { result ≡ (if leb item target && ltb item fault then item else fault) }
+#[tactic(auto, unfolding(crate::specs::inner::Seats::sooner))]
+fn sooner(item: Option<u8>, target: Option<u8>, fault: usize) -> usize
+    ensures { result ≡ sooner item target fault }
 {
-    if target < item {
+    let Some(item) = item else {
         return fault;
+    };
+    match target {
+        Some(target) if target < item => fault,
+        _ => fault.min(usize::from(item)),
     }
-    if fault <= item as usize {
-        return fault;
-    }
-    item as usize
 }
 
 // The first index at fault: where the seats end, or sooner where an edge's target does not stand before its item.
-fn first_fault<'a>(s: Seats, owners: &'a [u8], targets: &'a [u8], list: &[u32], n: usize) -> usize
-    requires { Rows owners.now targets.now × (n ≤ 256) × Filled n list.now s }
-    ensures { result ≡ first_fault (edges owners.now targets.now) n list.now }
+fn first_fault(s: &Seats, edges: Edges, list: &[u32]) -> usize
+    requires { Filled edges.items list.now s.now }
+    ensures { result ≡ first_fault (edges_in edges.entry) edges.entry.items list.now }
 {
     let mut fault = s.end;
-    let mut k = 0;
-    while k < owners.len() {
-        let o = owners[k] as usize;
-        let t = targets[k] as usize;
-        fault = sooner(s.index[o], s.index[t], fault);
-        k += 1;
+    for k in 0..edges.owners.len() {
+        let item = s.index[edges.owners[k] as usize];
+        let target = s.index[edges.targets[k] as usize];
+        fault = sooner(item, target, fault);
     }
     fault
 }
 
-// Whether the list is a load order of n items, else 33.
-pub(crate) fn check_list<'a>(owners: &'a [u8], targets: &'a [u8], n: usize, list: &[u32]) -> Verdict
-    requires { Rows owners.now targets.now × (n ≤ 256) }
-    ensures { result ≡ list_verdict (edges owners.now targets.now) n list.now }
+// Whether the list is a load order of the items, else 33.
+pub(crate) fn check_list(edges: Edges, list: &[u32]) -> Verdict
+    ensures { result ≡ list_verdict (edges_in edges.entry) edges.entry.items list.now }
 {
-    let s = seats::seat(list, n);
-    let fault = first_fault(s, owners, targets, list, n);
-    if list.len() == n {
-        if fault == n {
-            return Verdict::Accepted;
-        }
+    let s = seats::seat(list, edges.items);
+    let fault = first_fault(&s, edges, list);
+    if list.len() == edges.items && fault == edges.items {
+        return Ok(());
     }
-    Verdict::Refused(Refusal::NotAnOrder(fault as u32))
+    Err(Refusal::NotAnOrder(fault as u32))
 }

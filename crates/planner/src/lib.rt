@@ -9,7 +9,7 @@ ghost use Rattle.std.specs.Prelude.{◌≡◌};
 ghost use Rattle.planner.specs.Proposed.{checked_order, proposed};
 
 use answers::Verdict;
-use clerk::Sorted;
+use clerk::{Edges, Sorted};
 
 // The checks of the sheet up to 29; then whether the list is a load order of its items, else 33 with the first index at fault.
 pub fn check_order(sheet: &[u32], names: &[u8], list: &[u32]) -> Verdict
@@ -17,16 +17,19 @@ pub fn check_order(sheet: &[u32], names: &[u8], list: &[u32]) -> Verdict
 {
     let mut owners = [0u8; 2048];
     let mut targets = [0u8; 2048];
-    if let Verdict::Refused(refusal) = sheets::resolve(sheet, names, &mut owners, &mut targets) {
-        return Verdict::Refused(refusal);
-    }
-    let n = sheet[0] as usize;
+    sheets::resolve(sheet, names, &mut owners, &mut targets)?;
     let listed = sheet[1] as usize;
-    checking::check_list(&owners[0..listed], &targets[0..listed], n, list)
+    let edges = Edges {
+        items: sheet[0] as usize,
+        owners: &owners[..listed],
+        targets: &targets[..listed],
+    };
+    checking::check_list(edges, list)
 }
 
 // A load order for every sheet that the sorter accepts, else the sorter's refusal. It is no more than a call of the sorter: what is offered is the
 // clerk's order.
+#[tactic(auto, unfolding(crate::specs::Proposed::proposed))]
 pub fn propose(sheet: &[u32], names: &[u8], list: &mut [u32]) -> Sorted
     ensures { (result, list.new) ≡ proposed sheet.now names.now list.old }
 {
