@@ -1,5 +1,5 @@
--- The laws of the kinds and of the keywords, for the rooms above.
-pub mod KindLaws
+-- The laws of the keywords, for the rooms above.
+pub mod ReadLaws
 pub mod WordLaws
 -- The definitions on the cases, and one answer for each contract.
 pub mod Cases

@@ -1,114 +1,82 @@
-//! Words: the keyword that a word's bytes are. Only keywords of the word's own length are compared.
-ghost use Rattle.std.specs.Prelude.{◌≡◌, if◌then◌else◌};
-ghost use Rattle.terms.specs.Terms.{same_bytes};
+//! Words: the keyword that a word's bytes are. A word is compared byte by byte, and only with the keywords of its own length.
+#![tactic(auto, unfolding(crate::specs::Keywords::keyword, crate::specs::Keywords::key_in, crate::specs::Keywords::keywords, terms::specs::Terms::ascii), using(crate::proofs::ReadLaws::by_bytes))]
+
+ghost use Rattle.std.specs.Prelude.{◌≡◌, ◌<◌, ◌≤◌, length};
 ghost use Rattle.kinds.specs.Keywords;
-ghost use Rattle.kinds.specs.Keywords.{keywords, key_in};
-ghost use Rattle.kinds.specs.inner.ByLength.{of_length};
 
 use crate::Token;
 
-// The kind of a keyword if the word has its bytes, else the other.
-fn key(word: &[u8], bytes: &[u8], kind: Token, other: Token) -> Token
-    ensures { result ≡ (if same_bytes word.now bytes.now then kind else other) }
+// The keyword of a word of up to four bytes.
+fn short_keyword(word: &[u8]) -> Token
+    requires { length word.now < 5 }
+    ensures { result ≡ Keywords.keyword word.now }
 {
-    if terms::same(word, bytes) {
-        return kind;
+    match word {
+        b"_" => Token::Underscore,
+        b"as" => Token::As,
+        b"s8" => Token::S8,
+        b"u8" => Token::U8,
+        b"use" => Token::Use,
+        b"u16" => Token::U16,
+        b"u32" => Token::U32,
+        b"u64" => Token::U64,
+        b"s16" => Token::S16,
+        b"s32" => Token::S32,
+        b"s64" => Token::S64,
+        b"f32" => Token::F32,
+        b"f64" => Token::F64,
+        b"own" => Token::Own,
+        b"map" => Token::Map,
+        b"type" => Token::Type,
+        b"func" => Token::Func,
+        b"char" => Token::Char,
+        b"enum" => Token::Enum,
+        b"bool" => Token::Bool,
+        b"list" => Token::List,
+        b"from" => Token::From_,
+        b"with" => Token::With,
+        _ => Token::Id,
     }
-    other
 }
 
-fn keyword_of_two(word: &[u8]) -> Token
-    ensures { result ≡ key_in (of_length 2 keywords) word.now }
+// The keyword of a longer word.
+fn long_keyword(word: &[u8]) -> Token
+    requires { 5 ≤ length word.now }
+    ensures { result ≡ Keywords.keyword word.now }
 {
-    let other = Token::Id;
-    let other = key(word, b"as", Token::As, other);
-    let other = key(word, b"s8", Token::S8, other);
-    key(word, b"u8", Token::U8, other)
-}
-
-fn keyword_of_three(word: &[u8]) -> Token
-    ensures { result ≡ key_in (of_length 3 keywords) word.now }
-{
-    let other = Token::Id;
-    let other = key(word, b"map", Token::Map, other);
-    let other = key(word, b"own", Token::Own, other);
-    let other = key(word, b"f64", Token::F64, other);
-    let other = key(word, b"f32", Token::F32, other);
-    let other = key(word, b"s64", Token::S64, other);
-    let other = key(word, b"s32", Token::S32, other);
-    let other = key(word, b"s16", Token::S16, other);
-    let other = key(word, b"u64", Token::U64, other);
-    let other = key(word, b"u32", Token::U32, other);
-    let other = key(word, b"u16", Token::U16, other);
-    key(word, b"use", Token::Use, other)
-}
-
-fn keyword_of_four(word: &[u8]) -> Token
-    ensures { result ≡ key_in (of_length 4 keywords) word.now }
-{
-    let other = Token::Id;
-    let other = key(word, b"with", Token::With, other);
-    let other = key(word, b"from", Token::From_, other);
-    let other = key(word, b"list", Token::List, other);
-    let other = key(word, b"bool", Token::Bool, other);
-    let other = key(word, b"enum", Token::Enum, other);
-    let other = key(word, b"char", Token::Char, other);
-    let other = key(word, b"func", Token::Func, other);
-    key(word, b"type", Token::Type, other)
-}
-
-fn keyword_of_five(word: &[u8]) -> Token
-    ensures { result ≡ key_in (of_length 5 keywords) word.now }
-{
-    let other = Token::Id;
-    let other = key(word, b"async", Token::Async, other);
-    let other = key(word, b"world", Token::World, other);
-    let other = key(word, b"tuple", Token::Tuple, other);
-    key(word, b"flags", Token::Flags, other)
-}
-
-fn keyword_of_six(word: &[u8]) -> Token
-    ensures { result ≡ key_in (of_length 6 keywords) word.now }
-{
-    let other = Token::Id;
-    let other = key(word, b"export", Token::Export, other);
-    let other = key(word, b"import", Token::Import, other);
-    let other = key(word, b"static", Token::Static, other);
-    let other = key(word, b"stream", Token::Stream, other);
-    let other = key(word, b"future", Token::Future, other);
-    let other = key(word, b"result", Token::Result_, other);
-    let other = key(word, b"option", Token::Option_, other);
-    let other = key(word, b"string", Token::String_, other);
-    let other = key(word, b"record", Token::Record, other);
-    key(word, b"borrow", Token::Borrow, other)
-}
-
-fn keyword_of_seven(word: &[u8]) -> Token
-    ensures { result ≡ key_in (of_length 7 keywords) word.now }
-{
-    let other = Token::Id;
-    let other = key(word, b"include", Token::Include, other);
-    let other = key(word, b"package", Token::Package, other);
-    key(word, b"variant", Token::Variant, other)
+    match word {
+        b"flags" => Token::Flags,
+        b"tuple" => Token::Tuple,
+        b"world" => Token::World,
+        b"async" => Token::Async,
+        b"borrow" => Token::Borrow,
+        b"record" => Token::Record,
+        b"string" => Token::String_,
+        b"option" => Token::Option_,
+        b"result" => Token::Result_,
+        b"future" => Token::Future,
+        b"stream" => Token::Stream,
+        b"static" => Token::Static,
+        b"import" => Token::Import,
+        b"export" => Token::Export,
+        b"variant" => Token::Variant,
+        b"package" => Token::Package,
+        b"include" => Token::Include,
+        b"resource" => Token::Resource,
+        b"interface" => Token::Interface,
+        b"constructor" => Token::Constructor,
+        b"error-context" => Token::ErrorContext,
+        _ => Token::Id,
+    }
 }
 
 // A word's kind.
 pub fn keyword(word: &[u8]) -> Token
     ensures { result ≡ Keywords.keyword word.now }
 {
-    let n = word.len();
-    match n {
-        1 => key(word, b"_", Token::Underscore, Token::Id),
-        2 => keyword_of_two(word),
-        3 => keyword_of_three(word),
-        4 => keyword_of_four(word),
-        5 => keyword_of_five(word),
-        6 => keyword_of_six(word),
-        7 => keyword_of_seven(word),
-        8 => key(word, b"resource", Token::Resource, Token::Id),
-        9 => key(word, b"interface", Token::Interface, Token::Id),
-        11 => key(word, b"constructor", Token::Constructor, Token::Id),
-        13 => key(word, b"error-context", Token::ErrorContext, Token::Id),
-        _ => Token::Id,
+    if word.len() < 5 {
+        short_keyword(word)
+    } else {
+        long_keyword(word)
     }
 }
