@@ -6,18 +6,15 @@ mod scalars;
 mod shorts;
 mod tally;
 
+use scalars::Found;
+use shorts::{EDGES, every_byte, texts_of};
 use std::io;
-use tally::print_tally;
 
 fn main(rt: HostRuntime) -> io::Result<()> {
-    print!(rt; "one byte:")?;
-    print_tally(&rt, shorts::texts_of(1, 256))?;
-    print!(rt; "two bytes:")?;
-    print_tally(&rt, shorts::texts_of(2, 65536))?;
-    print!(rt; "three bytes:")?;
-    print_tally(&rt, shorts::texts_of(3, 25600))?;
-    print!(rt; "four bytes:")?;
-    print_tally(&rt, shorts::texts_of(4, 256000))?;
-    print!(rt; "scalars:")?;
-    scalars::print_found(&rt, scalars::all())
+    let every = every_byte();
+    println!(rt; "one byte: {}", texts_of::<1>(&[]))?;
+    println!(rt; "two bytes: {}", texts_of::<2>(&every))?;
+    println!(rt; "three bytes: {}", texts_of::<3>(&EDGES))?;
+    println!(rt; "four bytes: {}", texts_of::<4>(&EDGES))?;
+    println!(rt; "scalars: {}", Found::all())
 }

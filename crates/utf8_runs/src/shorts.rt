@@ -1,55 +1,39 @@
 //! Short texts: every one of one byte and of two, and every first byte with bytes at the edges of the table's ranges behind it.
 //! A text of two bytes whose first starts three or four is a text that ends too early, and so is one of three whose first starts four.
-use crate::tally::{Tally, nothing, with_text};
+ghost use Rattle.std.specs.Prelude.{◌≤◌};
+
+use crate::tally::Tally;
 
 // The bytes at the edges of the ranges of RFC 3629, section 4.
-fn edge(i: u32) -> u8 {
-    match i {
-        0 => 0x00,
-        1 => 0x7F,
-        2 => 0x80,
-        3 => 0x8F,
-        4 => 0x90,
-        5 => 0x9F,
-        6 => 0xA0,
-        7 => 0xBF,
-        8 => 0xC0,
-        _ => 0xFF,
+pub const EDGES: [u8; 10] = [0x00, 0x7F, 0x80, 0x8F, 0x90, 0x9F, 0xA0, 0xBF, 0xC0, 0xFF];
+
+pub(crate) fn every_byte() -> [u8; 256] {
+    let mut bytes = [0; 256];
+    for (byte, value) in bytes.iter_mut().zip(0..=u8::MAX) {
+        *byte = value;
+    }
+    bytes
+}
+
+// Counts the text with each way to choose the bytes from a place on.
+fn count_from<const N: usize>(tally: &mut Tally, mut text: [u8; N], at: usize, choices: &[u8]) {
+    if at >= N {
+        tally.count(&text);
+        return;
+    }
+    for byte in choices {
+        text[at] = *byte;
+        count_from(tally, text, at + 1, choices);
     }
 }
 
-// Text k of those of this many bytes: all bytes behind each other up to two, the first byte and edges behind it above.
-fn with_text_of(t: Tally, size: u32, k: u32) -> Tally {
-    match size {
-        1 => {
-            let text = [(k % 256) as u8];
-            with_text(t, &text)
-        }
-        2 => {
-            let text = [(k / 256 % 256) as u8, (k % 256) as u8];
-            with_text(t, &text)
-        }
-        3 => {
-            let text = [(k / 100 % 256) as u8, edge(k / 10 % 10), edge(k % 10)];
-            with_text(t, &text)
-        }
-        _ => {
-            let text = [
-                (k / 1000 % 256) as u8,
-                edge(k / 100 % 10),
-                edge(k / 10 % 10),
-                edge(k % 10),
-            ];
-            with_text(t, &text)
-        }
+// The texts of this many bytes: any first byte, and each byte behind it one of these.
+pub(crate) fn texts_of<const N: usize>(behind: &[u8]) -> Tally
+    requires { N ≤ 4 }
+{
+    let mut tally = Tally::default();
+    for first in 0..=u8::MAX {
+        count_from(&mut tally, [first; N], 1, behind);
     }
-}
-
-// The first `count` texts of this many bytes.
-pub(crate) fn texts_of(size: u32, count: u32) -> Tally {
-    let mut t = nothing();
-    for k in 0..count {
-        t = with_text_of(t, size, k);
-    }
-    t
+    tally
 }

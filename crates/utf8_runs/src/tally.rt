@@ -1,67 +1,42 @@
 //! What is counted of some texts: how many read as a character, how many as ill-formed, the sum of the characters and of the next places.
 use answers::Place;
-use chars::Read;
-use std::io;
+use std::fmt;
 
-#[derive(Drop)]
+#[derive(Clone, Copy, Debug, Default, PartialEq, Eq)]
 pub struct Tally {
-    pub characters: u64,
-    pub ill: u64,
-    pub ends: u64,
-    pub sum: u64,
-    pub places: u64,
+    characters: u64,
+    ill: u64,
+    ends: u64,
+    sum: u64,
+    places: u64,
 }
 
-pub(crate) fn nothing() -> Tally {
-    Tally {
-        characters: 0,
-        ill: 0,
-        ends: 0,
-        sum: 0,
-        places: 0,
+impl Tally {
+    // Counts what stands at the start of one more text.
+    pub(crate) fn count(&mut self, text: &[u8]) {
+        match chars::read_at(text, Place(0)) {
+            Ok(None) => self.ends = self.ends.saturating_add(1),
+            Err(_) => self.ill = self.ill.saturating_add(1),
+            Ok(Some((c, next))) => {
+                self.characters = self.characters.saturating_add(1);
+                self.sum = self.sum.saturating_add(u64::from(c));
+                self.places = self.places.saturating_add(u64::from(next.0));
+            }
+        }
     }
 }
 
-fn more(n: u64, by: u32) -> u64 {
-    std::num::wrapping_add_u64(n, by as u64)
-}
-
-// The tally with what stands at the start of one more text.
-pub(crate) fn with_text(t: Tally, text: &[u8]) -> Tally {
-    match chars::read_at(text, Place(0)) {
-        Read::End => Tally {
-            characters: t.characters,
-            ill: t.ill,
-            ends: more(t.ends, 1),
-            sum: t.sum,
-            places: t.places,
-        },
-        Read::Ill(_) => Tally {
-            characters: t.characters,
-            ill: more(t.ill, 1),
-            ends: t.ends,
-            sum: t.sum,
-            places: t.places,
-        },
-        Read::Char(c, next) => Tally {
-            characters: more(t.characters, 1),
-            ill: t.ill,
-            ends: t.ends,
-            sum: more(t.sum, c),
-            places: more(t.places, next.0),
-        },
+impl fmt::Display for Tally {
+    fn fmt<W: fmt::Write>(&self, f: &mut fmt::Formatter<W>) -> fmt::Result {
+        write!(
+            f,
+            "characters {}, ill-formed {}, ",
+            self.characters, self.ill
+        )?;
+        write!(
+            f,
+            "ends {}, sum {}, next places {}",
+            self.ends, self.sum, self.places
+        )
     }
-}
-
-pub(crate) fn print_number(rt: &impl Print, label: &str, n: u64) -> io::Result<()> {
-    print!(rt; "{label}{n}")
-}
-
-pub(crate) fn print_tally(rt: &impl Print, t: Tally) -> io::Result<()> {
-    print_number(rt, " characters ", t.characters)?;
-    print_number(rt, ", ill-formed ", t.ill)?;
-    print_number(rt, ", ends ", t.ends)?;
-    print_number(rt, ", sum ", t.sum)?;
-    print_number(rt, ", next places ", t.places)?;
-    println!(rt)
 }
