@@ -1,115 +1,36 @@
-//! Every list of up to three words from 0 to 3, checked as the load order of a sheet. The second way to judge it: it is one of the permutations that
-//! are orders, letter by letter; or its words are gone through by hand.
-use crate::sheet::{item, target};
-use crate::{Tally, more, second};
-use answers::Verdict;
+//! A list, checked as the load order of a sheet. The second way to judge it: it is one of the permutations that are orders, word by word; or its
+//! words are gone through by hand.
+use crate::sheet::Sheet;
+use answers::{Refusal, Verdict};
 
-// Lists by number: the empty one, then those of one word, of two and of three.
-fn length(l: u32) -> u32 {
-    match l {
-        0 => 0,
-        1..=4 => 1,
-        5..=20 => 2,
-        _ => 3,
+impl Sheet<'_> {
+    // A word that is no item, repeats one that stands before it, or is an item that needs one that does not stand before it.
+    fn is_fault(&self, before: &[u32], word: u32) -> bool {
+        word >= self.items
+            || before.contains(&word)
+            || self
+                .edges
+                .iter()
+                .any(|edge| edge.item == word && !before.contains(&edge.target))
     }
-}
 
-fn code(l: u32) -> u32 {
-    match l {
-        0 => 0,
-        1..=4 => l - 1,
-        5..=20 => l - 5,
-        _ => l - 21,
+    // The first index that is at fault; the length where there is none.
+    fn fault(&self, list: &[u32]) -> usize {
+        for (k, word) in list.iter().enumerate() {
+            if self.is_fault(&list[..k], *word) {
+                return k;
+            }
+        }
+        list.len()
     }
-}
 
-fn word(l: u32, j: u32) -> u32 {
-    match j {
-        0 => code(l) % 4,
-        1 => code(l) / 4 % 4,
-        _ => code(l) / 16 % 4,
-    }
-}
-
-// The word x stands before index k.
-fn is_before(l: u32, k: u32, x: u32) -> bool {
-    for j in 0..k {
-        if word(l, j) == x {
-            return true;
+    // The verdict on a list is that of the second way.
+    pub(crate) fn agrees_on_list(&self, list: &[u32], verdict: Verdict) -> bool {
+        let is_order = self.has_order(list);
+        match verdict {
+            Ok(()) => is_order,
+            Err(Refusal::NotAnOrder(at)) => !is_order && at as usize == self.fault(list),
+            Err(_) => false,
         }
     }
-    false
-}
-
-// The item at index k needs one that does not stand before it.
-fn is_early(e: u32, g: u32, l: u32, k: u32) -> bool {
-    for i in 0..e {
-        if item(g, i) == word(l, k) && !is_before(l, k, target(g, i)) {
-            return true;
-        }
-    }
-    false
-}
-
-// The first index whose word is n or more, repeats an item, or is early; the length where there is none.
-fn fault(n: u32, e: u32, g: u32, l: u32) -> u32 {
-    for k in 0..length(l) {
-        let x = word(l, k);
-        if n <= x || is_before(l, k, x) || is_early(e, g, l, k) {
-            return k;
-        }
-    }
-    length(l)
-}
-
-// The list is permutation p of n items.
-fn spells(l: u32, n: u32, p: u32) -> bool {
-    for j in 0..n {
-        if word(l, j) != second::at_place(p, j) {
-            return false;
-        }
-    }
-    length(l) == n
-}
-
-fn is_load_order(n: u32, e: u32, g: u32, l: u32) -> bool {
-    for p in 0u32..6 {
-        if second::is_order(n, e, g, p) && spells(l, n, p) {
-            return true;
-        }
-    }
-    false
-}
-
-fn agrees(verdict: Verdict, n: u32, e: u32, g: u32, l: u32) -> bool {
-    let told = verdict.numbers();
-    if is_load_order(n, e, g, l) {
-        return told.number == 0;
-    }
-    told.number == 33 && told.detail == fault(n, e, g, l)
-}
-
-fn checked(sheet: &[u32], l: u32) -> Verdict {
-    let list = [word(l, 0), word(l, 1), word(l, 2)];
-    match length(l) {
-        0 => planner::check_order(sheet, b"abc", &list[0..0]),
-        1 => planner::check_order(sheet, b"abc", &list[0..1]),
-        2 => planner::check_order(sheet, b"abc", &list[0..2]),
-        _ => planner::check_order(sheet, b"abc", &list),
-    }
-}
-
-// Each list, tried.
-pub(crate) fn with_lists(from: Tally, sheet: &[u32], n: u32, e: u32, g: u32) -> Tally {
-    let mut t = from;
-    for l in 0u32..85 {
-        t.lists = more(t.lists);
-        if is_load_order(n, e, g, l) {
-            t.accepted = more(t.accepted);
-        }
-        if !agrees(checked(sheet, l), n, e, g, l) {
-            t.differ = more(t.differ);
-        }
-    }
-    t
 }

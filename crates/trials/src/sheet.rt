@@ -1,112 +1,68 @@
-//! Sheets by number. A listing's number has a digit from 0 to 8 for each dependency: three times its item, and its target.
+//! Sheets: items with names of one length, and the dependencies that they list.
+ghost use Rattle.std.specs.Prelude.{◌<◌, ◌≤◌, length};
 
-fn digit(g: u32, k: u32) -> u32 {
-    match k {
-        0 => g % 9,
-        1 => g / 9 % 9,
-        2 => g / 81 % 9,
-        3 => g / 729 % 9,
-        _ => g / 6561 % 9,
-    }
+use std::alloc::{AllocError, Global};
+
+// An item needs another one, its target.
+#[derive(Clone, Copy, Debug, PartialEq, Eq)]
+pub struct Edge {
+    pub item: u32,
+    pub target: u32,
+    ghost item_in: { item < 256 },
+    ghost target_in: { target < 256 },
 }
 
-// The item that lists dependency k, and its target.
-pub(crate) fn item(g: u32, k: u32) -> u32 {
-    digit(g, k) / 3
+impl Edge {
+    // Each one between three items.
+    pub const ALL: [Edge; 9] = [
+        Edge { item: 0, target: 0 },
+        Edge { item: 0, target: 1 },
+        Edge { item: 0, target: 2 },
+        Edge { item: 1, target: 0 },
+        Edge { item: 1, target: 1 },
+        Edge { item: 1, target: 2 },
+        Edge { item: 2, target: 0 },
+        Edge { item: 2, target: 1 },
+        Edge { item: 2, target: 2 },
+    ];
 }
 
-pub(crate) fn target(g: u32, k: u32) -> u32 {
-    digit(g, k) % 3
+#[derive(Clone, Copy, Debug)]
+pub struct Sheet<'a> {
+    pub items: u32,
+    // in the order of the items that list them
+    pub edges: &'a [Edge],
+    ghost items_in: { items ≤ 256 },
+    ghost edges_in: { length edges.now ≤ 2048 },
 }
 
-// The digits behind the last dependency are 0.
-fn ends(e: u32, g: u32) -> bool {
-    match e {
-        0 => g == 0,
-        1 => g < 9,
-        2 => g < 81,
-        3 => g < 729,
-        4 => g < 6561,
-        _ => true,
-    }
-}
-
-// The items of the dependencies do not go down, and all that is named is there.
-pub(crate) fn is_listing(n: u32, e: u32, g: u32) -> bool {
-    if !ends(e, g) {
-        return false;
-    }
-    let mut last = 0;
-    for k in 0..e {
-        let i = item(g, k);
-        if i < last {
-            return false;
+impl<'a> Sheet<'a> {
+    // None where there are too many, the items of the dependencies go down, or one that is named is not there.
+    pub(crate) fn new(items: u32, edges: &'a [Edge]) -> Option<Sheet<'a>> {
+        if items > 256 || edges.len() > 2048 {
+            return None;
         }
-        if n <= i {
-            return false;
+        let is_listing = edges.is_sorted_by_key(|edge| edge.item)
+            && edges
+                .iter()
+                .all(|edge| edge.item < items && edge.target < items);
+        is_listing.then_some(Sheet { items, edges })
+    }
+
+    // The words of the sheet, where item i is named by the bytes from i times their number on.
+    pub(crate) fn words(&self, alloc: Global, name: u8) -> Result<Vec<u32>, AllocError> {
+        let name = u32::from(name);
+        let count = self.edges.len() as u32;
+        let items_end = 5 + 4 * self.items;
+        let mut words = vec![in alloc; self.items, count, 5, items_end, items_end + 4 * count]?;
+        for item in 0..self.items {
+            let first = self.edges.partition_point(|edge| edge.item < item) as u32;
+            let listed = self.edges.iter().filter(|edge| edge.item == item).count() as u32;
+            words.extend_from_slice(&[item * name, name, first, listed])?;
         }
-        if n <= target(g, k) {
-            return false;
+        for (k, edge) in (0..).zip(self.edges) {
+            words.extend_from_slice(&[edge.target * name, name, k, k])?;
         }
-        last = i;
-    }
-    true
-}
-
-// How many of the dependencies are of items below i.
-fn below(e: u32, g: u32, i: u32) -> u32 {
-    let mut count = 0;
-    for k in 0..e {
-        if item(g, k) < i {
-            count = std::num::wrapping_add_u32(count, 1);
-        }
-    }
-    count
-}
-
-// A word, where there is room.
-fn put_word(words: &mut [u32], at: u32, word: u32) {
-    let i = at as usize;
-    if i < words.len() {
-        words[i] = word;
-    }
-}
-
-// Four words, as far as there is room.
-pub(crate) fn put(words: &mut [u32], at: u32, a: u32, b: u32, c: u32, d: u32) {
-    put_word(words, at, a);
-    put_word(words, std::num::wrapping_add_u32(at, 1), b);
-    put_word(words, std::num::wrapping_add_u32(at, 2), c);
-    put_word(words, std::num::wrapping_add_u32(at, 3), d);
-}
-
-fn words_of(n: u32, e: u32) -> u32 {
-    5 + n % 4 * 4 + e % 6 * 4
-}
-
-// How many words the sheet has.
-pub(crate) fn size(n: u32, e: u32) -> usize {
-    words_of(n, e) as usize
-}
-
-// The sheet of n items, named a, b and c, and the listing g.
-pub(crate) fn write(words: &mut [u32], n: u32, e: u32, g: u32) {
-    let items_end = words_of(n, 0);
-    put(words, 0, n, e, 5, items_end);
-    put(words, 4, words_of(n, e), 0, 0, 0);
-    for i in 0..n % 4 {
-        let first = below(e, g, i);
-        let count = std::num::wrapping_sub_u32(below(e, g, i + 1), first);
-        put(words, 5 + 4 * i, i, 1, first, count);
-    }
-    for k in 0..e % 6 {
-        put(
-            words,
-            std::num::wrapping_add_u32(items_end, 4 * k),
-            target(g, k),
-            1,
-            k,
-            k,
-        );
+        Ok(words)
     }
 }
