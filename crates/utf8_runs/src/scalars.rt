@@ -37,10 +37,10 @@ impl Found {
 
     fn count(&mut self, c: u32) {
         let mut bytes = [0; 4];
-        let n = encoding::encode(c, &mut bytes);
-        match bytes.get(..n) {
-            Some(text) if n > 0 => self.count_text(text, c),
-            _ => add_one(&mut self.none),
+        let size = encoding::encode(c, &mut bytes);
+        match size.and_then(|n| bytes.get(..n)) {
+            Some(text) => self.count_text(text, c),
+            None => add_one(&mut self.none),
         }
     }
 
