@@ -14,7 +14,9 @@ use Rattle.answers.specs.declared.Place.{Place}
 use Rattle.answers.specs.declared.Ill.{Ill as Sequence}
 use Rattle.answers.specs.declared.Refusal.{Refusal}
 use Rattle.answers.specs.declared.Refusal.TheVariants.{IllFormed}
-use Rattle.chars.specs.declared.Read.TheVariants.{End, Ill, Char}
+use Rattle.std.specs.Prelude.{None, Some, Result, Ok, Err}
+use Rattle.std.specs.Result.{IsErrAnd}
+use Rattle.std.proofs.lemmas.Result.{err_from_is_err_and}
 use Rattle.chars.specs.Utf8.{byte_at, on_by}
 use Rattle.chars.specs.View.{Chars, end, ill, char, place_of, folded_at, folded_from}
 use Rattle.classes.specs.Classes.{keylike_continue}
@@ -26,9 +28,8 @@ use Rattle.chars.proofs.ViewLaws.{Ordered, folded_end, folded_ill, folded_char, 
 use Rattle.chars.specs.inner.Single.{single_at}
 use Rattle.chars.proofs.RunLaws.{run_strides, run_stops, in_set_low}
 use Rattle.chars.proofs.SingleLaws.{single_is, single_stands}
-use Rattle.runs.specs.declared.Ran.TheVariants.{To, Stopped}
 use Rattle.runs.specs.declared.Run.{Run}
-use Rattle.runs.specs.Comments.{blank, digit, run}
+use Rattle.runs.specs.Comments.{Ran, blank, digit, run}
 use Rattle.runs.specs.inner.Runs.{class_of, passed_over, set_of}
 
 -- a run's class by its name
@@ -45,20 +46,20 @@ unfolding class_of
 keylike_class = refl
 
 module _ (class : ℕ → Bool) (s : List ℕ) (p : Place) where
-  pub run_end_lem : folded_at s p ≡ End → run class (folded_from s p) ≡ To p
+  pub run_end_lem : folded_at s p ≡ Ok None → run class (folded_from s p) ≡ Ok p
   unfolding run
   run_end_lem e = rw (folded_end s p e)
 
-  pub run_ill : (i : Sequence) → folded_at s p ≡ Ill i → run class (folded_from s p) ≡ Stopped (IllFormed i)
+  pub run_ill : (i : Sequence) → folded_at s p ≡ Err i → run class (folded_from s p) ≡ Err (IllFormed i)
   unfolding run
   run_ill i e = rw (folded_ill s p i e)
 
-  module _ (c : ℕ) (n : Place) (e : folded_at s p ≡ Char c n) where
+  module _ (c : ℕ) (n : Place) (e : folded_at s p ≡ Ok (Some (c, n))) where
     pub run_inside : class c ≡ true → run class (folded_from s p) ≡ run class (folded_from s n)
     unfolding run
     run_inside h = rw (folded_char s p c n e, h)
 
-    pub run_outside : class c ≡ false → run class (folded_from s p) ≡ To p
+    pub run_outside : class c ≡ false → run class (folded_from s p) ≡ Ok p
     unfolding run
     run_outside h = rw (folded_char s p c n e, h)
 
@@ -92,7 +93,7 @@ run_passes r s p =
 
 -- and a byte below 0x80 that is not of the set ends the run
 pub run_ends : (r : Run) (s : List ℕ) (p : Place) → single_at s (run_end s (set_of r) p) ≡ true
-    → run (class_of r) (folded_from s p) ≡ To (run_end s (set_of r) p)
+    → run (class_of r) (folded_from s p) ≡ Ok (run_end s (set_of r) p)
 run_ends r s p e =
     let i = single_is s (run_end s (set_of r) p) e in
     run_passes r s p
@@ -100,7 +101,7 @@ run_ends r s p e =
     (in_class r _ i.low ∙ run_stops s (set_of r) p i.inside i.capped)
 
 -- and a word is passed over at once too
-pub run_over : (r : Run) (s : List ℕ) (p : Place)
+run_over : (r : Run) (s : List ℕ) (p : Place)
     → run (class_of r) (folded_from s p) ≡ run (class_of r) (folded_from s (passed_over r s p))
 unfolding passed_over class_of run
 run_over Run.Blanks s p = refl
@@ -115,10 +116,18 @@ run_over Run.Keylike s p = go (ltb (byte_at s p) 0xCB)
     go true = refl
     go false = keylike_passes s p (run (class_of Run.Keylike)) goes_on
 
-pub to_is : {n m : Place} → To n ≡ To m → n ≡ m
+pub run_over_at : {v : Ran} (r : Run) (s : List ℕ) (p q : Place)
+    → q ≡ passed_over r s p → run (class_of r) (folded_from s q) ≡ v → run (class_of r) (folded_from s p) ≡ v
+run_over_at r s p q e h = run_over r s p ∙ rw (← e) h
+
+-- an ill-formed sequence refuses by itself
+pub ill_refuses : {A : Type 0} {i : Sequence} (r : Result A Refusal) → IsErrAnd r (λ f. f ≡ IllFormed i) → r ≡ Err (IllFormed i)
+ill_refuses r e = let p = err_from_is_err_and r e in p.1 ∙ rw p.2
+
+pub to_is : {n m : Place} → ◌≡◌ {A = Ran} (Ok n) (Ok m) → n ≡ m
 to_is e = cc
 
-pub stopped_not : {f : Refusal} {n : Place} → Stopped f ≡ To n → ⊥
+pub stopped_not : {f : Refusal} {n : Place} → ◌≡◌ {A = Ran} (Err f) (Ok n) → ⊥
 stopped_not e = let z : ◌≡◌ {A = ℕ} 0 1 = cc in omega arith
 
 -- n is a place of the view: where one of its characters stands, or what ends it
@@ -148,16 +157,16 @@ pub view_within : (s : List ℕ) (p : Place) → p.0 ≤ length s → (n : Place
 view_within s p l n a = among_within (length s) (folded_from s p) p (folded_ordered s p) l n a
 
 -- so a run does
-run_among : (class : ℕ → Bool) (v : Chars) (n : Place) → run class v ≡ To n → Among v n
+run_among : (class : ℕ → Bool) (v : Chars) (n : Place) → run class v ≡ Ok n → Among v n
 unfolding run
 run_among class (end q) n e = to_is e
 run_among class (ill i) n e = absurd (stopped_not e)
 run_among class (char q c v) n e = go (class c) e (run_among class v n)
   where
-    go : (t : Bool) → (if t then run class v else To q) ≡ To n → (run class v ≡ To n → Among v n) → Among (char q c v) n
+    go : (t : Bool) → (if t then run class v else Ok q) ≡ Ok n → (run class v ≡ Ok n → Among v n) → Among (char q c v) n
     go true e ih = inr (ih e)
     go false e ih = inl (to_is e)
 
 pub run_to : (class : ℕ → Bool) (s : List ℕ) (p : Place) → p.0 ≤ length s
-    → (n : Place) → run class (folded_from s p) ≡ To n → (p.0 ≤ n.0) × (n.0 ≤ length s)
+    → (n : Place) → run class (folded_from s p) ≡ Ok n → (p.0 ≤ n.0) × (n.0 ≤ length s)
 run_to class s p l n e = view_within s p l n (run_among class (folded_from s p) n e)

@@ -9,7 +9,7 @@ pub use comments::{block_comment, line_comment};
 pub use runs::{run_from, run_on};
 
 // The runs that rules take: of blanks, of digits, and of keylike continuations.
-#[derive(Clone, Copy)]
+#[derive(Clone, Copy, Debug, PartialEq, Eq)]
 pub enum Run {
     Blanks,
     Digits,
@@ -17,17 +17,12 @@ pub enum Run {
 }
 
 // Where in a block comment the walk stands: how deep, and whether a `/` or a `*` that no pair has eaten came last.
-#[derive(Clone, Copy)]
+#[derive(Clone, Copy, Debug, PartialEq, Eq)]
 pub enum Block {
     Other(u32),
     Slash(u32),
     Star(u32),
-    Closed,
 }
 
 // Where a run or a comment ends: the place where the rest begins, or a refusal.
-#[derive(Clone, Copy)]
-pub enum Ran {
-    To(Place),
-    Stopped(Refusal),
-}
+pub type Ran = Result<Place, Refusal>;

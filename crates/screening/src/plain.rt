@@ -6,11 +6,21 @@ ghost use Rattle.screening.specs.inner.Plain.{is_plain, halts, halts_at, plain_e
 use answers::Place;
 
 // A byte that is no character by itself, or that screening may refuse.
+// As one `matches!` or one condition it misses the bar of speed: the loop below then takes half as many instructions again.
 #[tactic(auto, unfolding(crate::specs::inner::Plain::is_plain, terms::specs::Terms::within))]
 fn odd(b: u8) -> bool
     ensures { result ≡ not (is_plain b) }
 {
-    !matches!(b, 9 | 10 | 13 | 0x20..=0x7E)
+    if b < 0x20 {
+        if b == 9 {
+            return false;
+        }
+        if b == 10 {
+            return false;
+        }
+        return b != 13;
+    }
+    0x7F <= b
 }
 
 // A byte at which the plain text less these bytes ends.

@@ -1,5 +1,5 @@
 -- The bytes that runs and comments pass over at once, and the states of a block comment. `proofs/RunLaws.antt` and `proofs/CommentLaws.antt` tie them to the rules.
-use Rattle.std.specs.Prelude.{ℕ, ◌≤◌, Bool, List, ltb, if◌then◌else◌}
+use Rattle.std.specs.Prelude.{ℕ, ◌≤◌, Bool, List, [], ◌∷◌, ltb, if◌then◌else◌}
 use Rattle.answers.specs.declared.Place.{Place}
 use Rattle.answers.specs.Caps.{cap}
 use Rattle.chars.specs.declared.AsciiSet.{AsciiSet}
@@ -32,17 +32,15 @@ passed_over Run.Keylike s p = if ltb (byte_at s p) 0xCB then p else keylike_end 
 
 -- Where a block comment is looked at next: past plain text without `/` and `*`, unless half a pair may stand before the place.
 unfoldable pub passed_by : Block → List ℕ → Place → Place
-passed_by (Block.Other depth) s p = plain_end s 47 42 13 p
+passed_by (Block.Other depth) s p = plain_end s (47 ∷ 42 ∷ 13 ∷ []) p
 passed_by (Block.Slash depth) s p = p
 passed_by (Block.Star depth) s p = p
-passed_by Block.Closed s p = p
 
 -- How deep a comment is.
 unfoldable pub depth_of : Block → ℕ
 depth_of (Block.Other depth) = depth
 depth_of (Block.Slash depth) = depth
 depth_of (Block.Star depth) = depth
-depth_of Block.Closed = 1
 
 -- A comment is one deep at least, and no deeper than the text is long.
 pub record Sound (b : Block) : Type 0 where
