@@ -18,8 +18,8 @@ use Rattle.answers.specs.Places.{place}
 use Rattle.answers.specs.Caps.{cap}
 use Rattle.chars.specs.Utf8.{byte_at, lead_of, is_tail, ill_at as ill_at_lem, char_by, char_at, is_scalar, encode}
 use Rattle.chars.specs.View.{chars_from}
-use Rattle.chars.specs.declared.Read.{Read}
-use Rattle.chars.specs.declared.Read.TheVariants.{End, Ill as Broken, Char}
+use Rattle.chars.specs.Utf8.{Read}
+use Rattle.std.specs.Prelude.{None, Some, Ok, Err}
 use Rattle.chars.specs.declared.Lead.{Lead}
 use Rattle.chars.specs.declared.Lead.TheVariants.{Alone, Two, Three, Four, Never}
 use Rattle.chars.proofs.Utf8Laws.{Lawful, lawful, byte_in, onward}
@@ -29,9 +29,9 @@ use Rattle.chars.proofs.RoundTrip.{read_encode}
 use Rattle.strings.specs.declared.Seen.{Seen}
 use Rattle.strings.specs.declared.Seen.TheVariants.{Well, Part, Ill}
 use Rattle.strings.specs.declared.More.{More}
-use Rattle.strings.specs.declared.More.TheVariants.{Nothing, One, Whole}
+use Rattle.strings.specs.declared.More.TheVariants.{One, Whole}
 use Rattle.strings.specs.Strings.{added, ill_at, first_ill, judged}
-use Rattle.strings.specs.inner.Checking.{started, feed, feeds, pass, took, verdict, Fair, Proper}
+use Rattle.strings.specs.inner.Checking.{part, started, went_on, feed, feeds, pass, took, verdict, Fair, Proper}
 
 -- the check over a list: its two equations, and over two lists
 feeds_cons : (n : ℕ) (t : Seen) (b : ℕ) (l : List ℕ) → feeds n t (b ∷ l) ≡ feeds (n + 1) (feed n t b) l
@@ -64,13 +64,13 @@ started_fair n b (Four low high) h = (h.2, h.3, omega arith)
 started_fair n b Never h = tt
 
 feed_fair : (n : ℕ) (t : Seen) (b : ℕ) → Fair t → Fair (feed n t b)
-unfolding feed
+unfolding feed went_on
 feed_fair n Well b f = started_fair n b (lead_of b) (lawful b (lead_of b) refl)
-feed_fair n (Part start low high left) b f = go (within low high b) (eqb left 1) refl
+feed_fair n (Part r) b f = go (within r.low r.high b) (eqb r.left 1) refl
   where
-    go : (t u : Bool) → eqb left 1 ≡ u → Fair (if t then (if u then Well else Part start 0x80 0xBF (left - 1)) else Ill start)
+    go : (t u : Bool) → eqb r.left 1 ≡ u → Fair (if t then (if u then Well else part r.start 0x80 0xBF (r.left - 1)) else Ill r.start)
     go true true e = tt
-    go true false e = let i = eqb-false left 1 e in (omega arith, omega arith, omega arith)
+    go true false e = let i = eqb-false r.left 1 e in (omega arith, omega arith, omega arith)
     go false u e = tt
 feed_fair n (Ill start) b f = tt
 
@@ -89,11 +89,11 @@ module _ (g : List ℕ) where
 
   -- a sequence in progress at q: the byte there is none that it wants, is its last, or is one on the way
   module _ (start low high : ℕ) where
-    at_no : (q left : ℕ) → within low high (byte q) ≡ false → verdict (feeds q (Part start low high left) (drop q g)) ≡ ill_at start
-    unfolding feed verdict
+    at_no : (q left : ℕ) → within low high (byte q) ≡ false → verdict (feeds q (part start low high left) (drop q g)) ≡ ill_at start
+    unfolding feed went_on verdict
     at_no q left e = go (leb (length g) q) refl
       where
-        go : (t : Bool) → leb (length g) q ≡ t → verdict (feeds q (Part start low high left) (drop q g)) ≡ ill_at start
+        go : (t : Bool) → leb (length g) q ≡ t → verdict (feeds q (part start low high left) (drop q g)) ≡ ill_at start
         go true h = rw (drop_of_length-le g (leb-true _ _ h), feeds_none)
         go false h = rw (next q (q + 1) refl (leb-false _ _ h), feeds_cons, e, ill_stays (q + 1) start (drop (q + 1) g))
 
@@ -101,23 +101,23 @@ module _ (g : List ℕ) where
       inside : q < length g
       inside = byte_in g (place q) (let w = within_true low high (byte q) e in omega arith)
 
-      at_last : feeds q (Part start low high 1) (drop q g) ≡ feeds q' Well (drop q' g)
-      unfolding feed
+      at_last : feeds q (part start low high 1) (drop q g) ≡ feeds q' Well (drop q' g)
+      unfolding feed went_on
       at_last = rw (next q q' onto inside, feeds_cons, e, onto)
 
-      at_on : (k : ℕ) → eqb k 1 ≡ false → feeds q (Part start low high k) (drop q g) ≡ feeds q' (Part start 0x80 0xBF (k - 1)) (drop q' g)
-      unfolding feed
+      at_on : (k : ℕ) → eqb k 1 ≡ false → feeds q (part start low high k) (drop q g) ≡ feeds q' (part start 0x80 0xBF (k - 1)) (drop q' g)
+      unfolding feed went_on
       at_on k i = rw (next q q' onto inside, feeds_cons, e, i, onto)
 
   -- what one character, or what is none, does to the check
   abbrev Step : ℕ → Read → Type 0
-  Step p End = drop p g ≡ []
-  Step p (Broken i) = verdict (feeds p Well (drop p g)) ≡ ill_at i.at.0
-  Step p (Char c n) = feeds p Well (drop p g) ≡ feeds n.0 Well (drop n.0 g)
+  Step p (Ok None) = drop p g ≡ []
+  Step p (Err i) = verdict (feeds p Well (drop p g)) ≡ ill_at i.at.0
+  Step p (Ok (Some (c, n))) = feeds p Well (drop p g) ≡ feeds n.0 Well (drop n.0 g)
 
   module _ (p : ℕ) (h : p < length g) where
     begins : (l : Lead) → lead_of (byte p) ≡ l → feeds p Well (drop p g) ≡ feeds (p + 1) (started p l) (drop (p + 1) g)
-    unfolding feed
+    unfolding feed went_on
     begins l e = rw (next p (p + 1) refl h, feeds_cons, e)
 
     step : (l : Lead) → lead_of (byte p) ≡ l
@@ -126,31 +126,31 @@ module _ (g : List ℕ) where
     step Alone e = begins Alone e
     step (Two low high) e = go _ (within low high (byte (p + 1))) refl
       where
-        go : (x : ℕ) (t : Bool) → within low high (byte (p + 1)) ≡ t → Step p (if t then Char x (place (p + 2)) else ill_at_lem (place p))
+        go : (x : ℕ) (t : Bool) → within low high (byte (p + 1)) ≡ t → Step p (if t then Ok (Some (x, place (p + 2))) else ill_at_lem (place p))
         go x true a = begins _ e ∙ at_last p low high (p + 1) (p + 2) (omega arith) (lawful _ _ e).2 a
         go x false a = rw (begins _ e) (at_no p low high (p + 1) 1 a)
     step (Three low high) e = go _ (within low high (byte (p + 1))) (within 0x80 0xBF (byte (p + 2))) refl refl
       where
-        second : within low high (byte (p + 1)) ≡ true → feeds p Well (drop p g) ≡ feeds (p + 2) (Part p 0x80 0xBF 1) (drop (p + 2) g)
+        second : within low high (byte (p + 1)) ≡ true → feeds p Well (drop p g) ≡ feeds (p + 2) (part p 0x80 0xBF 1) (drop (p + 2) g)
         second a = begins _ e ∙ at_on p low high (p + 1) (p + 2) (omega arith) (lawful _ _ e).2 a 2 refl
 
         go : (x : ℕ) (t u : Bool) → within low high (byte (p + 1)) ≡ t → within 0x80 0xBF (byte (p + 2)) ≡ u
-            → Step p (if t && u then Char x (place (p + 3)) else ill_at_lem (place p))
+            → Step p (if t && u then Ok (Some (x, place (p + 3))) else ill_at_lem (place p))
         go x true true a b = second a ∙ at_last p 0x80 0xBF (p + 2) (p + 3) (omega arith) (omega arith) b
         go x true false a b = rw (second a) (at_no p 0x80 0xBF (p + 2) 1 b)
         go x false u a b = rw (begins _ e) (at_no p low high (p + 1) 2 a)
     step (Four low high) e =
         go _ (within low high (byte (p + 1))) (within 0x80 0xBF (byte (p + 2))) (within 0x80 0xBF (byte (p + 3))) refl refl refl
       where
-        second : within low high (byte (p + 1)) ≡ true → feeds p Well (drop p g) ≡ feeds (p + 2) (Part p 0x80 0xBF 2) (drop (p + 2) g)
+        second : within low high (byte (p + 1)) ≡ true → feeds p Well (drop p g) ≡ feeds (p + 2) (part p 0x80 0xBF 2) (drop (p + 2) g)
         second a = begins _ e ∙ at_on p low high (p + 1) (p + 2) (omega arith) (lawful _ _ e).2 a 3 refl
 
         third : within low high (byte (p + 1)) ≡ true → within 0x80 0xBF (byte (p + 2)) ≡ true
-            → feeds p Well (drop p g) ≡ feeds (p + 3) (Part p 0x80 0xBF 1) (drop (p + 3) g)
+            → feeds p Well (drop p g) ≡ feeds (p + 3) (part p 0x80 0xBF 1) (drop (p + 3) g)
         third a b = second a ∙ at_on p 0x80 0xBF (p + 2) (p + 3) (omega arith) (omega arith) b 2 refl
 
         go : (x : ℕ) (t u v : Bool) → within low high (byte (p + 1)) ≡ t → within 0x80 0xBF (byte (p + 2)) ≡ u
-            → within 0x80 0xBF (byte (p + 3)) ≡ v → Step p (if t && (u && v) then Char x (place (p + 4)) else ill_at_lem (place p))
+            → within 0x80 0xBF (byte (p + 3)) ≡ v → Step p (if t && (u && v) then Ok (Some (x, place (p + 4))) else ill_at_lem (place p))
         go x true true true a b c = third a b ∙ at_last p 0x80 0xBF (p + 3) (p + 4) (omega arith) (omega arith) c
         go x true true false a b c = rw (third a b) (at_no p 0x80 0xBF (p + 3) 1 c)
         go x true false v a b c = rw (second a) (at_no p 0x80 0xBF (p + 2) 2 b)
@@ -163,7 +163,7 @@ module _ (g : List ℕ) where
   steps p fine = go (leb (length g) p) refl (leb cap p) refl
     where
       go : (t : Bool) → leb (length g) p ≡ t → (u : Bool) → leb cap p ≡ u
-          → Step p (if t || u then End else char_by (place p) (byte p) (byte (p + 1)) (byte (p + 2)) (byte (p + 3)) (lead_of (byte p)))
+          → Step p (if t || u then Ok None else char_by (place p) (byte p) (byte (p + 1)) (byte (p + 2)) (byte (p + 3)) (lead_of (byte p)))
       go true h u k = drop_of_length-le g (leb-true _ _ h)
       go false h true k = drop_of_length-le g (fine (leb-true _ _ k))
       go false h false k = step p (leb-false _ _ h) (lead_of (byte p)) refl
@@ -176,9 +176,9 @@ module _ (g : List ℕ) where
       go : (r : Read) → char_at g (place p) ≡ r → Step p r
           → ((n : ℕ) → length g - n < k → first_ill (chars_from g (place n)) ≡ verdict (feeds n Well (drop n g)))
           → first_ill (chars_from g (place p)) ≡ verdict (feeds p Well (drop p g))
-      go End e s ih = rw (chars_end g (place p) e, s, feeds_none)
-      go (Broken i) e s ih = rw (chars_ill g (place p) i e) (sym s)
-      go (Char c n) e s ih = rw (chars_char g (place p) c n e, s) (ih n.0 (let o = onward g (place p) c n e in omega arith))
+      go (Ok None) e s ih = rw (chars_end g (place p) e, s, feeds_none)
+      go (Err i) e s ih = rw (chars_ill g (place p) i e) (sym s)
+      go (Ok (Some (c, n))) e s ih = rw (chars_char g (place p) c n e, s) (ih n.0 (let o = onward g (place p) c n e in omega arith))
 
 -- THE THEOREM: fed byte by byte, the check says of the bytes what their reading says
 pub checked : (g : List ℕ) → length g ≤ cap → judged g ≡ verdict (feeds 0 Well g)
@@ -202,7 +202,7 @@ module _ (n c : ℕ) (k : n < cap) (y : is_scalar c ≡ true) where
   short : length text ≤ n + length (encode c)
   short = rw (append-nil, length-append before (encode c), long) (omega arith)
 
-  reads : char_at text (place n) ≡ Char c (place (n + length (encode c)))
+  reads : char_at text (place n) ≡ Ok (Some (c, place (n + length (encode c))))
   reads =
       let l : length before < cap = rw long k in
       rw long at (read_encode before [] c l y)
@@ -215,11 +215,11 @@ module _ (n c : ℕ) (k : n < cap) (y : is_scalar c ≡ true) where
 
 -- in a sequence in progress
 module _ (n start low high left : ℕ) where
-  ends : (b : ℕ) (l : List ℕ) → within low high b ≡ false → feeds n (Part start low high left) (b ∷ l) ≡ Ill start
-  unfolding feeds feed
+  ends : (b : ℕ) (l : List ℕ) → within low high b ≡ false → feeds n (part start low high left) (b ∷ l) ≡ Ill start
+  unfolding feeds feed went_on
   ends b l e = rw e (ill_stays (n + 1) start l)
 
-  broken : (c : ℕ) → 0x80 ≤ low → high ≤ 0xBF → feeds n (Part start low high left) (encode c) ≡ Ill start
+  broken : (c : ℕ) → 0x80 ≤ low → high ≤ 0xBF → feeds n (part start low high left) (encode c) ≡ Ill start
   broken c f g =
       split 0x7F c (λ h. rw (encode_one c h) (ends _ _ (within_below low high _ (omega arith)))) (λ i.
       split 0x7FF c (λ h. rw (encode_two c i h) (ends _ _ (within_above low high _ (omega arith)))) (λ j.
@@ -230,24 +230,23 @@ module _ (n start low high left : ℕ) where
 pub passes : (n : ℕ) (t : Seen) (c : ℕ) → n < cap → is_scalar c ≡ true → Fair t → feeds n t (encode c) ≡ pass t
 unfolding pass
 passes n Well c k y f = well n c k y
-passes n (Part start low high left) c k y f = broken n start low high left c f.0 f.1
+passes n (Part r) c k y f = broken n r.start r.low r.high r.left c f.0 f.1
 passes n (Ill start) c k y f = ill_stays n start (encode c)
 
 pub pass_twice : (t : Seen) → pass (pass t) ≡ pass t
 unfolding pass
 pass_twice Well = refl
-pass_twice (Part start low high left) = refl
+pass_twice (Part r) = refl
 pass_twice (Ill start) = refl
 
 pub pass_fair : (t : Seen) → Fair t → Fair (pass t)
 unfolding pass
 pass_fair Well f = tt
-pass_fair (Part start low high left) f = tt
+pass_fair (Part r) f = tt
 pass_fair (Ill start) f = tt
 
 -- what a turn adds, in the check's terms
 pub took_is : (n : ℕ) (t : Seen) (m : More) → n < cap → Proper m → Fair t → feeds n t (added m) ≡ took n t m
 unfolding added took feeds
-took_is n t Nothing k p f = refl
 took_is n t (One b) k p f = refl
 took_is n t (Whole c) k p f = passes n t c k p f

@@ -5,6 +5,8 @@ use mathlib.Core.Path.{◌≡◌, refl, ap, ◌∙◌}
 use mathlib.Core.Bool.{Bool, true, false, ◌&&◌}
 use mathlib.Core.List.{List, []}
 use native.Mathlib.Omega.{arith}
+use Rattle.std.specs.Bool.{then_some}
+use Rattle.std.specs.Result.{result_ok}
 use lib.Dec.{leb, eqb}
 use lib.ListN.{length}
 use borrow.Author.Tests.{le-leb, lt-leb, leb-true, eq-eqb, ne_eqb, eqb-true}
@@ -14,15 +16,14 @@ use Rattle.answers.specs.declared.Position.{Position}
 use Rattle.answers.specs.declared.Span.{Span}
 use Rattle.answers.specs.declared.Refusal.{Refusal}
 use Rattle.answers.specs.declared.Refusal.TheVariants.{BadSpan, NoRoom}
-use Rattle.answers.specs.declared.Verdict.TheVariants.{Accepted as Passes, Refused as Fails}
+use Rattle.std.specs.Prelude.{None, Some, Result, Ok, Err}
 use Rattle.answers.specs.Places.{place}
-use Rattle.answers.specs.Caps.{text_verdict}
+use Rattle.answers.specs.Caps.{accepted as passed, text_verdict}
 use Rattle.chars.specs.Utf8.{byte_at}
 use Rattle.chars.specs.View.{Chars, place_of, folded_from}
 use Rattle.chars.proofs.Utf8Laws.{byte_in}
 use Rattle.strings.specs.declared.Inside.TheVariants.{Plain}
-use Rattle.strings.specs.declared.Literal.TheVariants.{Closed, Refused as Denied}
-use Rattle.strings.specs.declared.Decoded.TheVariants.{Value, Refused}
+use Rattle.strings.specs.declared.Literal.{Literal}
 use Rattle.strings.specs.Strings.{Gathered, bytes, refused, gather}
 use Rattle.strings.specs.Strings.{Judged, whole, ill_at, judged, closed_by, literal_of, string_literal}
 use Rattle.strings.specs.Decoding.{Spelt, spelt, none, well_spelt, ending_at, spelling, storing, decoded_by, decoded}
@@ -41,44 +42,50 @@ module _ (s : List ℕ) (o : ℕ) (span : Span) where
   unfolding spelling
   spelt_early l = rw (lt-leb _ _ l)
 
-  module _ (l : o ≤ span.start.0) where
-    pub spelt_elsewhere : (quote ≡ 0x22 → ⊥) → spelling s o span ≡ none
+  -- where it starts, the text has a place
+  module _ (at : ℕ) (p : (o ≤ span.start.0) × (at ≡ span.start.0 - o)) where
+    pub spelt_elsewhere : (byte_at s (place at) ≡ 0x22 → ⊥) → spelling s o span ≡ none
     unfolding spelling
-    spelt_elsewhere e = rw (le-leb _ _ l, ne_eqb _ _ e)
+    spelt_elsewhere e = let f : quote ≡ 0x22 → ⊥ = rw p.1 at e in rw (le-leb _ _ p.0, ne_eqb _ _ f)
 
-    module _ (e : quote ≡ 0x22) where
-      from_quote : spelling s o span ≡ ending_at o span.end (gather o Plain [] (folded_from s behind))
+    module _ (e : byte_at s (place at) ≡ 0x22) (q : Position) where
+      from_quote : spelling s o span ≡ ending_at o span.end (gather o Plain [] (folded_from s (place (at + 1))))
       unfolding spelling
-      from_quote = rw (le-leb _ _ l, eq-eqb _ _ e)
+      from_quote = let f : quote ≡ 0x22 = rw p.1 at e in rw (le-leb _ _ p.0, eq-eqb _ _ f, ← p.1)
 
-      pub spelt_refused : (q : Position) (f : Refusal) → string_literal s o q behind ≡ Denied f → spelling s o span ≡ none
+      pub spelt_refused : result_ok (string_literal s o q (place (at + 1))) ≡ None → spelling s o span ≡ none
       unfolding string_literal literal_of closed_by ending_at well_spelt
-      spelt_refused q f d = from_quote ∙ go (gather o Plain [] (folded_from s behind)) d
+      spelt_refused d = from_quote ∙ go (gather o Plain [] (folded_from s (place (at + 1)))) d
         where
-          judge : (t : Bool) (g : List ℕ) (m : Place) (j : Judged) → closed_by q (length g) j m ≡ Denied f
+          judge : (t : Bool) (g : List ℕ) (m : Place) (j : Judged) → result_ok (closed_by q (length g) j m) ≡ None
               → (if t then well_spelt j g else none) ≡ none
           judge t g m whole d = cc
           judge true g m (ill_at k) d = refl
           judge false g m (ill_at k) d = refl
 
-          go : (r : Gathered) → literal_of q r ≡ Denied f → ending_at o span.end r ≡ none
+          go : (r : Gathered) → result_ok (literal_of q r) ≡ None → ending_at o span.end r ≡ none
           go (bytes g v) d = judge (eqb (o + (place_of v).0) span.end.0) g (place_of v) (judged g) d
           go (refused k) d = refl
 
-      module _ (q : Position) (m : Place) (n : ℕ) (d : string_literal s o q behind ≡ Closed m n) where
-        closed_at : (t : Bool) → eqb (o + m.0) span.end.0 ≡ t
-            → spelling s o span ≡ (if t then spelt (accepted s o q behind m n d).value else none)
+      module _ (l : Literal) (d : result_ok (string_literal s o q (place (at + 1))) ≡ Some l) where
+        closed : (r : Result Literal Refusal) → result_ok r ≡ Some l → r ≡ Ok l
+        closed (Ok m) e = cc
+        closed (Err f) e = cc
+
+        closed_at : (t : Bool) → eqb (o + l.end.0) span.end.0 ≡ t
+            → spelling s o span ≡ (if t then spelt (accepted s o q (place (at + 1)) l (closed _ d)).value else none)
         unfolding ending_at well_spelt
         closed_at t k =
-            let a = accepted s o q behind m n d in
+            let a = accepted s o q (place (at + 1)) l (closed _ d) in
             from_quote ∙ rw (a.gathered, a.behind, a.well, k)
 
-        pub spelt_whole : o + m.0 ≡ span.end.0 → measured (spelling s o span) ≡ Value n
+        pub spelt_then : then_some (eqb (o + l.end.0) span.end.0) l.count ≡ measured (spelling s o span)
         unfolding measured
-        spelt_whole k = rw (closed_at true (eq-eqb _ _ k)) (ap Value (accepted s o q behind m n d).counted)
-
-        pub spelt_otherwise : (o + m.0 ≡ span.end.0 → ⊥) → spelling s o span ≡ none
-        spelt_otherwise k = closed_at false (ne_eqb _ _ k)
+        spelt_then = go (eqb (o + l.end.0) span.end.0) refl
+          where
+            go : (t : Bool) → eqb (o + l.end.0) span.end.0 ≡ t → then_some t l.count ≡ measured (spelling s o span)
+            go true k = rw (closed_at true k, (accepted s o q (place (at + 1)) l (closed _ d)).counted)
+            go false k = rw (closed_at false k)
 
   -- where a span spells something, it starts at a quote of the text, from which that is gathered
   pub record Spells (g : List ℕ) : Type 0 where
@@ -119,36 +126,36 @@ module _ (s : List ℕ) (o : ℕ) (span : Span) where
       start false t e = absurd (not_none e)
 
 -- what the first walk answers
-pub measured_none : (t : Spelt) → t ≡ none → Refused BadSpan ≡ measured t
+pub measured_none : (t : Spelt) → t ≡ none → None ≡ measured t
 unfolding measured
 measured_none t e = rw e
 
-pub measured_refused : (t : Spelt) (f : Refusal) → measured t ≡ Refused f → (t ≡ none) × (f ≡ BadSpan)
+pub measured_refused : (t : Spelt) → measured t ≡ None → t ≡ none
 unfolding measured
-measured_refused (spelt g) f e = (cc, cc)
-measured_refused none f e = (refl, cc)
+measured_refused (spelt g) e = cc
+measured_refused none e = refl
 
-pub measured_value : (t : Spelt) (n : ℕ) → measured t ≡ Value n → (g : List ℕ) × (t ≡ spelt g) × (length g ≡ n)
+pub measured_value : (t : Spelt) (n : ℕ) → measured t ≡ Some n → (g : List ℕ) × (t ≡ spelt g) × (length g ≡ n)
 unfolding measured
 measured_value (spelt g) n e = (g, refl, cc)
 measured_value none n e = absurd (let z : ◌≡◌ {A = ℕ} 0 1 = cc in omega arith)
 
 -- what decoding answers
 module _ (s : List ℕ) (o : ℕ) (span : Span) (b : List ℕ) where
-  pub decoded_refused : (f : Refusal) → text_verdict o (length s) ≡ Fails f → decoded s o span b ≡ (Refused f, b)
+  pub decoded_refused : (f : Refusal) → text_verdict o (length s) ≡ Err f → decoded s o span b ≡ (Err f, b)
   unfolding decoded decoded_by
   decoded_refused f e = rw e
 
-  module _ (passes : text_verdict o (length s) ≡ Passes) where
+  module _ (passes : text_verdict o (length s) ≡ passed) where
     stores : decoded s o span b ≡ storing (spelling s o span) b
     unfolding decoded decoded_by
     stores = rw passes
 
-    pub decoded_nothing : (f : Refusal) → measured (spelling s o span) ≡ Refused f → decoded s o span b ≡ (Refused f, b)
+    pub decoded_nothing : measured (spelling s o span) ≡ None → decoded s o span b ≡ (Err BadSpan, b)
     unfolding storing
-    decoded_nothing f e = let r = measured_refused (spelling s o span) f e in stores ∙ rw (r.0, r.1)
+    decoded_nothing e = stores ∙ rw (measured_refused (spelling s o span) e)
 
-    module _ (n : ℕ) (e : measured (spelling s o span) ≡ Value n) where
+    module _ (n : ℕ) (e : measured (spelling s o span) ≡ Some n) where
       abbrev value : List ℕ
       value = (measured_value (spelling s o span) n e).0
 
@@ -161,13 +168,13 @@ module _ (s : List ℕ) (o : ℕ) (span : Span) (b : List ℕ) where
       stored : decoded s o span b ≡ storing (spelt value) b
       stored = stores ∙ rw (measured_value (spelling s o span) n e).1
 
-      pub decoded_short : length b < n → decoded s o span b ≡ (Refused (NoRoom n), b)
+      pub decoded_short : length b < n → decoded s o span b ≡ (Err (NoRoom n), b)
       unfolding storing
       decoded_short l = stored ∙ rw (counted, lt-leb _ _ l)
 
       pub room : n ≤ length b → Roomy (gather o Plain [] (folded_from s (place (span.start.0 - o + 1)))) (length b)
       room l = rw spelled.gathered (omega (arith, counted))
 
-      pub decoded_value : n ≤ length b → decoded s o span b ≡ (Value n, filled (gather o Plain [] (folded_from s (place (span.start.0 - o + 1)))) b)
+      pub decoded_value : n ≤ length b → decoded s o span b ≡ (Ok n, filled (gather o Plain [] (folded_from s (place (span.start.0 - o + 1)))) b)
       unfolding storing filled
       decoded_value l = stored ∙ rw (spelled.gathered, counted, le-leb _ _ l)

@@ -2,6 +2,7 @@
 pub mod StringLaws
 -- Those of its walks.
 pub mod CheckingLaws
+pub mod DigitLaws
 pub mod TurnLaws
 pub mod RawLaws
 pub mod RuleLaws

@@ -8,7 +8,8 @@ use prog.Routine.{Routine}
 use types.Logic.{Logic}
 use contract.Monad.{Fun}
 use Rattle.terms.proofs.OneAnswer.{OneAnswer, OneOutcome, agree}
-use Rattle.strings.specs.declared.Decoded.{Decoded}
+use Rattle.std.specs.Prelude.{Result}
+use Rattle.answers.specs.declared.Refusal.{Refusal}
 use Rattle.strings.specs.contracts.expect_string_literal
 use Rattle.strings.specs.contracts.string_literal
 
@@ -17,6 +18,6 @@ module _ {M : Type 1} {𝓤 : Ura M} (𝓛 : Logic 𝓤) (mem : Memory → SProp
   expect_string_literal_one κs a g z z' e e' = agree 𝓤
 
   -- the count or the refusal, and the buffer
-  pub string_literal_one : OneOutcome 𝓤 string_literal.ended (λ κs. Decoded × List ℕ) (λ κs z e. (z, e.1.1.1.0.now))
+  pub string_literal_one : OneOutcome 𝓤 string_literal.ended (λ κs. Result ℕ Refusal × List ℕ) (λ κs z e. (z, e.1.1.1.0.now))
       (string_literal.clauses 𝓛 mem run)
   string_literal_one κs a g z z' e e' = agree 𝓤

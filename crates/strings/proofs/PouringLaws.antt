@@ -18,15 +18,14 @@ use Rattle.answers.specs.declared.Refusal.TheVariants.{InvalidStringElement}
 use Rattle.answers.specs.Caps.{cap}
 use Rattle.chars.specs.Utf8.{byte_at, on_by, char_at, encode}
 use Rattle.chars.specs.View.{Chars, folded_at, folded_from}
-use Rattle.chars.specs.declared.Read.TheVariants.{Char}
+use Rattle.std.specs.Prelude.{Some, Ok, Err}
 use Rattle.chars.proofs.Utf8Laws.{onward}
 use Rattle.chars.proofs.ViewLaws.{folded_is, folded_onward}
 use Rattle.chars.proofs.EncodeLaws.{encode_tails}
 use Rattle.chars.proofs.RoundTrip.{read_width, read_byte, ascii_byte}
 use Rattle.strings.specs.declared.Inside.TheVariants.{Plain}
 use Rattle.strings.specs.declared.More.{More}
-use Rattle.strings.specs.declared.Turn.TheVariants.{Fail}
-use Rattle.strings.specs.declared.Element.TheVariants.{Adds, Close as Closes, Fail as Fails}
+use Rattle.strings.specs.declared.Element.TheVariants.{Adds, Close as Closes}
 use Rattle.strings.specs.Strings.{plain_turn, turn_of, added, Gathered, bytes, refused, gather}
 use Rattle.strings.specs.inner.Walking.{Comes, Leads, Raw}
 use Rattle.strings.specs.inner.Writing.{Roomy, filled, is_mark, unmarked, copied, stored}
@@ -49,22 +48,22 @@ module _ (s : List ℕ) where
 
   -- the character that stands at an unmarked byte of an accepted string is raw
   module _ (o : ℕ) (h : List ℕ) (p : Place) (g : List ℕ) (v : Chars) (e : gather o Plain h (folded_from s p) ≡ bytes g v)
-      (c : ℕ) (n : Place) (here : folded_at s p ≡ Char c n) (u : is_mark (byte_at s p) ≡ false) where
-    unfolded : (c ≡ 10 → ⊥) → char_at s p ≡ Char c n
+      (c : ℕ) (n : Place) (here : folded_at s p ≡ Ok (Some (c, n))) (u : is_mark (byte_at s p) ≡ false) where
+    unfolded : (c ≡ 10 → ⊥) → char_at s p ≡ Ok (Some (c, n))
     unfolded x = ⊎_elim (λ z. absurd (x z)) (λ z. z) (folded_is s p c n here)
 
     byte_is : c ≤ 0x7F → (c ≡ 10 → ⊥) → byte_at s p ≡ c
     byte_is l x = ascii_byte s p c n (unfolded x) l
 
-    fails : eqb c 0x22 ≡ false → eqb c 0x5C ≡ false → (ltb c 0x20 || eqb c 0x7F) ≡ true → turn_of Plain p c ≡ Fail (InvalidStringElement p c)
+    fails : eqb c 0x22 ≡ false → eqb c 0x5C ≡ false → (ltb c 0x20 || eqb c 0x7F) ≡ true → turn_of Plain p c ≡ Err (InvalidStringElement p c)
     unfolding turn_of plain_turn
     fails x y z = rw (x, y, z)
 
-    char_bare : (char_at s p ≡ Char c n) × Bare c
+    char_bare : (char_at s p ≡ Ok (Some (c, n))) × Bare c
     char_bare = go (eqb c 0x22) refl (eqb c 0x5C) refl (ltb c 0x20 || eqb c 0x7F) refl
       where
         go : (t : Bool) → eqb c 0x22 ≡ t → (w : Bool) → eqb c 0x5C ≡ w → (f : Bool) → (ltb c 0x20 || eqb c 0x7F) ≡ f
-            → (char_at s p ≡ Char c n) × Bare c
+            → (char_at s p ≡ Ok (Some (c, n))) × Bare c
         go true x w y f z =
             let k = eqb-true c 0x22 x in
             absurd ((unmarked_is (byte_at s p) u).0 (byte_is (omega arith) (λ d. omega arith) ∙ k))
@@ -78,7 +77,7 @@ module _ (s : List ℕ) where
             (unfolded (λ d. omega arith), record { high = l; quote = eqb-false _ _ x; slash = eqb-false _ _ y; del = eqb-false _ _ b.1 })
 
   -- no byte of a raw character but the first can be a mark
-  behind_unmarked : (p : Place) (c : ℕ) (n : Place) → char_at s p ≡ Char c n → is_mark (byte_at s p) ≡ false
+  behind_unmarked : (p : Place) (c : ℕ) (n : Place) → char_at s p ≡ Ok (Some (c, n)) → is_mark (byte_at s p) ≡ false
       → (j : ℕ) → p.0 ≤ j → j < p.0 + (n.0 - p.0) → mark j ≡ false
   unfolding byte_at
   behind_unmarked p c n e u j x y =
@@ -107,7 +106,7 @@ module _ (s : List ℕ) where
         let a = accepted_char s o Plain h p g v e in
         go a.0 a.1 a.2 (is_mark (byte_at s p)) refl (λ r w q. raws k (h ++ take r (drop p.0 s)) (on_by r p) g v w q)
       where
-        go : (c : ℕ) (n : Place) → folded_at s p ≡ Char c n → (t : Bool) → is_mark (byte_at s p) ≡ t
+        go : (c : ℕ) (n : Place) → folded_at s p ≡ Ok (Some (c, n)) → (t : Bool) → is_mark (byte_at s p) ≡ t
             → ((r : ℕ) → length s - (p.0 + r) < k → gather o Plain (h ++ take r (drop p.0 s)) (folded_from s (on_by r p)) ≡ bytes g v
             → Raw s (on_by r p) (unmarked s (on_by r p)))
             → Raw s p (unmarked s p)
@@ -196,10 +195,10 @@ module _ (s : List ℕ) (o : ℕ) (p : Place) (b : List ℕ) (room : Roomy (gath
       (next (drop at.0 s) (unmarked s at) (on_by (unmarked s at) at) inside (poured_raw.comes o))
 
   -- what an element adds
-  pub poured_fits : (m : More) (q : Place) → Leads s o Plain at (Adds m q) → n + length (added m) ≤ length v
+  pub poured_fits : (m : More) (q : Place) → Leads s o Plain at (Ok (Adds m q)) → n + length (added m) ≤ length v
   poured_fits m q l = next_room (added m) q l.1
 
-  pub poured_put : (m : More) (q : Place) → Leads s o Plain at (Adds m q) → (r : ℕ) (w : List ℕ) → (r, w) ≡ stored m n v
+  pub poured_put : (m : More) (q : Place) → Leads s o Plain at (Ok (Adds m q)) → (r : ℕ) (w : List ℕ) → (r, w) ≡ stored m n v
       → Poured s o p b w q (n + r)
   unfolding stored
   poured_put m q l r w e =
@@ -207,9 +206,9 @@ module _ (s : List ℕ) (o : ℕ) (p : Place) (b : List ℕ) (room : Roomy (gath
       (next (added m) (length (added m)) q (omega arith) (rw take-length l.1))
 
   -- the closing quote; and nothing else can end it
-  pub poured_close : (q : Place) → Leads s o Plain at (Closes q) → v ≡ filled (gather o Plain [] (folded_from s p)) b
+  pub poured_close : (q : Place) → Leads s o Plain at (Ok (Closes q)) → v ≡ filled (gather o Plain [] (folded_from s p)) b
   unfolding filled
   poured_close q l = rw (d.same ∙ l.1 (take n v), front, ← d.rest) (sym (take-append-drop n v))
 
-  pub poured_fail : (f : Refusal) → Leads s o Plain at (Fails f) → ⊥
+  pub poured_fail : (f : Refusal) → Leads s o Plain at (Err f) → ⊥
   poured_fail f l = not_refused (sym (l (take n v)) ∙ here.2)

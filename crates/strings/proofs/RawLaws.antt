@@ -18,7 +18,7 @@ use Rattle.answers.specs.Places.{place}
 use Rattle.answers.specs.Caps.{cap}
 use Rattle.chars.specs.Utf8.{byte_at, on_by, char_at}
 use Rattle.chars.specs.View.{folded_at}
-use Rattle.chars.specs.declared.Read.TheVariants.{Char}
+use Rattle.std.specs.Prelude.{Some, Ok}
 use Rattle.chars.proofs.Utf8Laws.{onward, scalar, four_at_most, ascii_at_lem}
 use Rattle.chars.proofs.ViewLaws.{as_folded}
 use Rattle.chars.proofs.RoundTrip.{encode_read, ascii_byte}
@@ -28,7 +28,7 @@ use Rattle.strings.specs.declared.Turn.TheVariants.{On}
 use Rattle.strings.specs.declared.Seen.{Seen}
 use Rattle.strings.specs.Strings.{plain_turn, turn_of, added}
 use Rattle.strings.specs.inner.Checking.{feeds, pass, Fair}
-use Rattle.strings.specs.inner.Walking.{Comes, is_bare, bare_end, Raw}
+use Rattle.strings.specs.inner.Walking.{Comes, is_bare, not_bare, bare_end, Raw}
 use Rattle.strings.proofs.CheckingLaws.{feeds_none, feeds_append, passes, pass_twice, pass_fair}
 use Rattle.strings.proofs.TurnLaws.{went, comes_none, comes_on}
 
@@ -39,7 +39,7 @@ pub record Bare (c : ℕ) : Type 0 where
   pub slash : c ≡ 0x5C → ⊥
   pub del : c ≡ 0x7F → ⊥
 
-plain_raw : (p : Place) (c : ℕ) → Bare c → turn_of Plain p c ≡ On Plain (Whole c)
+plain_raw : (p : Place) (c : ℕ) → Bare c → turn_of Plain p c ≡ Ok (On Plain (Some (Whole c)))
 unfolding turn_of plain_turn
 plain_raw p c b = rw (ne_eqb _ _ b.quote, ne_eqb _ _ b.slash, le-ltb _ _ b.high, ne_eqb _ _ b.del)
 
@@ -54,15 +54,15 @@ module _ (s : List ℕ) where
   }
 
   -- one
-  pub raw_one : (p : Place) (c : ℕ) (n : Place) → char_at s p ≡ Char c n → Bare c → Raw s p (n.0 - p.0)
+  pub raw_one : (p : Place) (c : ℕ) (n : Place) → char_at s p ≡ Ok (Some (c, n)) → Bare c → Raw s p (n.0 - p.0)
   unfolding added
   raw_one p c n e b =
       let w = onward s p c n e in
       let q : p.0 + (n.0 - p.0) ≡ n.0 = omega arith in
       let f = four_at_most s p c n e in
-      let here : folded_at s p ≡ Char c n = as_folded s p c n e (λ d. omega (arith, b.high)) in
+      let here : folded_at s p ≡ Ok (Some (c, n)) = as_folded s p c n e (λ d. omega (arith, b.high)) in
       record {
-        comes = λ o. rw (encode_read s p c n e, q) (went s o Plain p c n here tt Plain (Whole c) (plain_raw p c b)).comes;
+        comes = λ o. rw (encode_read s p c n e, q) (went s o Plain p c n here tt Plain (Some (Whole c)) (plain_raw p c b)).comes;
         passes = λ k t l g z. rw (encode_read s p c n e) (passes k t c (omega arith) (scalar s p c n e) g);
         inside = λ z. omega arith;
         near = λ z. omega arith;
@@ -138,7 +138,7 @@ module _ (s : List ℕ) where
       (λ j x y. not-false _ (none_before test (end - q) q j x y))
     where
       test : ℕ → Bool
-      test j = not (is_bare (get_or s j 0))
+      test j = not_bare s j
 
       go : (m : ℕ) → q ≤ m → m ≤ q + (end - q) → ((j : ℕ) → q ≤ j → j < m → is_bare (get_or s j 0) ≡ true) → Raw s p (m - p.0)
       go m x y bare =
@@ -148,7 +148,7 @@ module _ (s : List ℕ) where
 
   -- and of a character that has more bytes than one
   pub raw_high : (p : Place) (q c : ℕ) (n : Place) → p.0 ≤ q → Raw s p (q - p.0)
-      → char_at s (place q) ≡ Char c n → 0x80 ≤ byte_at s (place q) → Raw s p (n.0 - p.0)
+      → char_at s (place q) ≡ Ok (Some (c, n)) → 0x80 ≤ byte_at s (place q) → Raw s p (n.0 - p.0)
   raw_high p q c n l a e h =
       let w = onward s (place q) c n e in
       raw_then p q n.0 l (omega arith) a (raw_one (place q) c n e bare)

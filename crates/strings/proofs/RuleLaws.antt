@@ -16,8 +16,8 @@ use Rattle.strings.specs.declared.Inside.TheVariants.{Plain}
 use Rattle.strings.specs.declared.More.{More}
 use Rattle.strings.specs.declared.Seen.{Seen}
 use Rattle.strings.specs.declared.Seen.TheVariants.{Well}
-use Rattle.strings.specs.declared.Element.TheVariants.{Adds, Close, Fail}
-use Rattle.strings.specs.declared.Literal.TheVariants.{Refused}
+use Rattle.strings.specs.declared.Element.TheVariants.{Adds, Close}
+use Rattle.std.specs.Prelude.{Ok, Err}
 use Rattle.strings.specs.Strings.{added, bytes, refused, gather, judged, closed_by, literal_of, string_literal}
 use Rattle.strings.specs.inner.Checking.{feeds, pass, took, verdict, Fair}
 use Rattle.strings.specs.inner.Walking.{Comes, Leads, Raw}
@@ -58,7 +58,7 @@ module _ (s : List ℕ) (o : ℕ) (p at : Place) (count : ℕ) (seen : Seen) (r 
         known = knows run (pass seen) (w.passes count seen (omega (arith, reached_paid)) reached_fair z);
       }
 
-  pub reached_adds : (m : More) (n : Place) → Leads s o Plain at (Adds m n) → Reached s o p n (count + length (added m)) (took count seen m)
+  pub reached_adds : (m : More) (n : Place) → Leads s o Plain at (Ok (Adds m n)) → Reached s o p n (count + length (added m)) (took count seen m)
   reached_adds m n l = record {
     gathered = r.gathered ++ added m;
     comes = comes_on s o Plain Plain Plain p at n r.gathered (added m) r.comes l.1;
@@ -66,14 +66,14 @@ module _ (s : List ℕ) (o : ℕ) (p at : Place) (count : ℕ) (seen : Seen) (r 
     known = knows (added m) (took count seen m) (took_is count seen m (omega (arith, reached_paid, l.0.capped)) l.2 reached_fair);
   }
 
-  pub reached_close : (q : Position) (n : Place) → Leads s o Plain at (Close n) → string_literal s o q p ≡ closed_by q count (verdict seen) n
+  pub reached_close : (q : Position) (n : Place) → Leads s o Plain at (Ok (Close n)) → string_literal s o q p ≡ closed_by q count (verdict seen) n
   unfolding string_literal literal_of
   reached_close q n l =
       let e : gather o Plain [] (folded_from s p) ≡ bytes r.gathered (folded_from s n) = r.comes.same [] ∙ l.1 r.gathered in
       let j : judged r.gathered ≡ verdict seen = checked r.gathered (omega (arith, reached_paid, r.counted, l.0.capped)) ∙ rw r.known in
       rw (e, j, folded_place s n, r.counted)
 
-  pub reached_fail : (q : Position) (f : Refusal) → Leads s o Plain at (Fail f) → string_literal s o q p ≡ Refused f
+  pub reached_fail : (q : Position) (f : Refusal) → Leads s o Plain at (Err f) → string_literal s o q p ≡ Err f
   unfolding string_literal literal_of
   reached_fail q f l =
       let e : gather o Plain [] (folded_from s p) ≡ refused f = r.comes.same [] ∙ l r.gathered in rw e

@@ -1,17 +1,14 @@
 -- 01, "Strings": the value of a string that a span names, at the front of a lent buffer.
-use Rattle.std.specs.Prelude.{ℕ, ◌+◌, ◌-◌, ◌&&◌, List, [], ◌++◌, length, drop, leb, eqb, if◌then◌else◌}
+use Rattle.std.specs.Prelude.{ℕ, ◌+◌, ◌-◌, ◌&&◌, List, [], ◌++◌, length, drop, leb, eqb, Result, Ok, Err, if◌then◌else◌}
 use Rattle.answers.specs.declared.Position.{Position}
 use Rattle.answers.specs.declared.Span.{Span}
-use Rattle.answers.specs.declared.Verdict.{Verdict}
-use Rattle.answers.specs.declared.Verdict.TheVariants.{Accepted, Refused as Refused'}
+use Rattle.answers.specs.declared.Refusal.{Refusal}
 use Rattle.answers.specs.declared.Refusal.TheVariants.{BadSpan, NoRoom}
 use Rattle.answers.specs.Places.{place}
-use Rattle.answers.specs.Caps.{text_verdict}
+use Rattle.answers.specs.Caps.{Verdict, text_verdict}
 use Rattle.chars.specs.Utf8.{byte_at}
 use Rattle.chars.specs.View.{place_of, folded_from}
 use Rattle.strings.specs.declared.Inside.TheVariants.{Plain}
-use Rattle.strings.specs.declared.Decoded.{Decoded}
-use Rattle.strings.specs.declared.Decoded.TheVariants.{Value, Refused}
 use Rattle.strings.specs.Strings.{Gathered, bytes, refused, gather, Judged, whole, ill_at, judged}
 
 -- A value, or none.
@@ -37,16 +34,16 @@ spelling s o span =
     else none
 
 -- 22 where the span spells nothing, 25 where the buffer lacks room; else the value and its count, the rest of the buffer as it was.
-unfoldable pub storing : Spelt → List ℕ → Decoded × List ℕ
-storing none b = (Refused BadSpan, b)
+unfoldable pub storing : Spelt → List ℕ → Result ℕ Refusal × List ℕ
+storing none b = (Err BadSpan, b)
 storing (spelt g) b =
-    if leb (length g) (length b) then (Value (length g), g ++ drop (length g) b) else (Refused (NoRoom (length g)), b)
+    if leb (length g) (length b) then (Ok (length g), g ++ drop (length g) b) else (Err (NoRoom (length g)), b)
 
 -- 1 and 2 go before 22 and 25, and leave the buffer as it was.
-unfoldable pub decoded_by : Verdict → Spelt → List ℕ → Decoded × List ℕ
-decoded_by (Refused' f) g b = (Refused f, b)
-decoded_by Accepted g b = storing g b
+unfoldable pub decoded_by : Verdict → Spelt → List ℕ → Result ℕ Refusal × List ℕ
+decoded_by (Err f) g b = (Err f, b)
+decoded_by (Ok _) g b = storing g b
 
 -- The value of a span, and the buffer.
-unfoldable pub decoded : List ℕ → ℕ → Span → List ℕ → Decoded × List ℕ
+unfoldable pub decoded : List ℕ → ℕ → Span → List ℕ → Result ℕ Refusal × List ℕ
 decoded s o span b = decoded_by (text_verdict o (length s)) (spelling s o span) b

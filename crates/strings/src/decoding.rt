@@ -6,31 +6,44 @@ ghost use Rattle.strings.specs.declared.Inside.TheVariants.{Plain};
 ghost use Rattle.strings.specs.Strings.{added, gather};
 ghost use Rattle.strings.specs.Decoding.{spelling, decoded};
 ghost use Rattle.strings.specs.inner.Checking.{Proper};
-ghost use Rattle.strings.specs.inner.Writing.{measured, Roomy, filled, unmarked, copied, stored};
+ghost use Rattle.strings.specs.inner.Writing.{measured, Roomy, filled, is_mark, unmarked, copied, stored};
 
 use crate::rule::{element_at, expect_string_literal};
-use crate::{Decoded, Element, Literal, More};
-use answers::{Place, Refusal, Span, Verdict};
+use crate::{Element, More};
+use answers::{Place, Refusal, Span};
+
+// A quote or a backslash.
+#[tactic(auto, unfolding(crate::specs::inner::Writing::is_mark))]
+fn is_mark(b: u8) -> bool
+    ensures { result ≡ is_mark b }
+{
+    matches!(b, 0x22 | 0x5C)
+}
+
+// How many bytes from a place on are no mark.
+fn unmarked(text: &[u8], at: Place) -> usize
+    ensures { result ≡ unmarked text.now at }
+{
+    let start = at.0 as usize;
+    for k in start..text.len() {
+        if is_mark(text[k]) {
+            return k - start;
+        }
+    }
+    text.len().saturating_sub(start)
+}
 
 // The bytes of the text from a place on, as far as no quote and no backslash stands, to the buffer from n on; how many.
 fn copy_raw(text: &[u8], at: Place, value: &mut [u8], n: usize) -> usize
     requires { n + unmarked text.now at ≤ length value.old }
     ensures { (result, value.new) ≡ copied text.now at n value.old }
 {
-    let start = at.0 as usize;
-    let mut k = start;
-    while k < text.len() {
-        let b = text[k];
-        if b == 0x22 {
-            return k - start;
-        }
-        if b == 0x5C {
-            return k - start;
-        }
-        value[n + (k - start)] = b;
-        k += 1;
+    let run = unmarked(text, at);
+    if 0 < run {
+        let start = at.0 as usize;
+        value[n..n + run].copy_from_slice(&text[start..start + run]);
     }
-    k - start
+    run
 }
 
 // What a turn adds, to the buffer from n on; how many bytes that is.
@@ -39,12 +52,11 @@ fn put(value: &mut [u8], n: usize, more: More) -> usize
     ensures { (result, value.new) ≡ stored more n value.old }
 {
     match more {
-        More::Nothing => 0,
         More::One(b) => {
             value[n] = b as u8;
             1
         }
-        More::Whole(c) => encoding::encode(c, &mut value[n..]),
+        More::Whole(c) => encoding::encode(c, &mut value[n..]).unwrap_or(0),
     }
 }
 
@@ -58,62 +70,47 @@ fn pour(text: &[u8], offset: u32, start: Place, value: &mut [u8])
     loop {
         let run = copy_raw(text, at, value, n);
         at = Place(at.0 + run as u32);
-        n = n + run;
+        n += run;
         match element_at(text, offset, at) {
-            Element::Adds(more, next) => {
-                n = n + put(value, n, more);
+            Ok(Element::Adds(more, next)) => {
+                n += put(value, n, more);
                 at = next;
             }
-            Element::Close(_) => {
-                return;
-            }
-            Element::Fail(_) => {
-                return;
-            }
+            Ok(Element::Close(_)) => return,
+            Err(_) => return,
         }
     }
 }
 
-// How many bytes a span spells; 22 where it spells none.
-fn measure(text: &[u8], offset: u32, span: Span) -> Decoded
+// How many bytes a span spells, if it spells a value.
+fn measure(text: &[u8], offset: u32, span: Span) -> Option<u32>
     requires { length text.now ≤ cap }
     ensures { result ≡ measured (spelling text.now offset span) }
 {
-    let start = span.start;
-    if start.0 < offset {
-        return Decoded::Refused(Refusal::BadSpan);
-    }
-    let quote = Place(start.0 - offset);
+    let quote = Place(span.start.0.checked_sub(offset)?);
     if chars::byte_at(text, quote) != 0x22 {
-        return Decoded::Refused(Refusal::BadSpan);
+        return None;
     }
-    match expect_string_literal(text, offset, start, Place(quote.0 + 1)) {
-        Literal::Refused(_) => Decoded::Refused(Refusal::BadSpan),
-        Literal::Closed(m, n) => {
-            if offset as usize + m.0 as usize == span.end.0 as usize {
-                return Decoded::Value(n);
-            }
-            Decoded::Refused(Refusal::BadSpan)
-        }
-    }
+    let literal = expect_string_literal(text, offset, span.start, Place(quote.0 + 1)).ok()?;
+    let ends = offset as usize + literal.end.0 as usize == span.end.0 as usize;
+    ends.then_some(literal.count)
 }
 
 // The value of the string that a span names, at the front of a lent buffer, and its count.
 // 1 and 2, then 22, then 25; on a refusal the buffer is as it was.
-pub fn string_literal(text: &[u8], offset: u32, span: Span, value: &mut [u8]) -> Decoded
+pub fn string_literal(
+    text: &[u8],
+    offset: u32,
+    span: Span,
+    value: &mut [u8],
+) -> Result<u32, Refusal>
     ensures { (result, value.new) ≡ decoded text.now offset span value.old }
 {
-    match answers::check_text(offset, text.len()) {
-        Verdict::Refused(refusal) => Decoded::Refused(refusal),
-        Verdict::Accepted => match measure(text, offset, span) {
-            Decoded::Refused(refusal) => Decoded::Refused(refusal),
-            Decoded::Value(n) => {
-                if value.len() < n as usize {
-                    return Decoded::Refused(Refusal::NoRoom(n));
-                }
-                pour(text, offset, Place(span.start.0 - offset + 1), value);
-                Decoded::Value(n)
-            }
-        },
+    answers::check_text(offset, text.len())?;
+    let n = measure(text, offset, span).ok_or(Refusal::BadSpan)?;
+    if value.len() < n as usize {
+        return Err(Refusal::NoRoom(n));
     }
+    pour(text, offset, Place(span.start.0 - offset + 1), value);
+    Ok(n)
 }

@@ -6,12 +6,21 @@ mod decoding;
 mod rule;
 mod turns;
 
-use answers::{Place, Refusal};
+use answers::Place;
 pub use decoding::string_literal;
 pub use rule::expect_string_literal;
 
+// The number between `\u{` and `}` so far: the places of the `u` and of the first digit, its value, and whether an underscore came last.
+#[derive(Clone, Copy, Debug, PartialEq, Eq)]
+pub struct Digits {
+    pub u: Place,
+    pub first: Place,
+    pub value: u32,
+    pub lone: bool,
+}
+
 // Where in a string the walk stands.
-#[derive(Clone, Copy)]
+#[derive(Clone, Copy, Debug, PartialEq, Eq)]
 pub enum Inside {
     // between characters
     Plain,
@@ -23,61 +32,51 @@ pub enum Inside {
     Brace(Place),
     // after `\u{`: the place of the `u`
     First(Place),
-    // in the number: the places of the `u` and of the first digit, the number so far, and whether an underscore came last
-    Number(Place, Place, u32, bool),
+    Number(Digits),
 }
 
-// What a turn adds to the gathered bytes: nothing, one byte, or a character's.
-#[derive(Clone, Copy)]
+// What a turn adds to the gathered bytes: one byte, or a character's.
+#[derive(Clone, Copy, Debug, PartialEq, Eq)]
 pub enum More {
-    Nothing,
     One(u32),
     Whole(u32),
 }
 
-// What one character does: the walk goes on, the string is closed, or it is refused.
-#[derive(Clone, Copy)]
+// What one character does where it is not refused: the walk goes on, and something may be added, or the string is closed.
+#[derive(Clone, Copy, Debug, PartialEq, Eq)]
 pub enum Turn {
-    On(Inside, More),
+    On(Inside, Option<More>),
     Close,
-    Fail(Refusal),
 }
 
-// What the string rule answers: the place behind the closing quote and the number of gathered bytes, or the refusal.
-#[derive(Clone, Copy)]
-pub enum Literal {
-    Closed(Place, u32),
-    Refused(Refusal),
-}
-
-// What decoding answers: the number of bytes in the value, or the refusal.
-#[derive(Clone, Copy)]
-pub enum Decoded {
-    Value(u32),
-    Refused(Refusal),
-}
-
-// A character that has to stand at a place, with the next place; or the refusal, where the text ends or is ill-formed there.
-#[derive(Clone, Copy)]
-enum Expected {
-    Char(u32, Place),
-    Fail(Refusal),
+// A string as the rule accepts it: the place behind the closing quote, and the number of gathered bytes.
+#[derive(Clone, Copy, Debug, PartialEq, Eq)]
+pub struct Literal {
+    pub end: Place,
+    pub count: u32,
 }
 
 // What stands in a string between characters, by one character or by a whole escape:
-// what it adds and the place behind it, the closing quote and the place behind it, or a refusal.
-#[derive(Clone, Copy)]
+// what it adds and the place behind it, or the closing quote and the place behind it.
+#[derive(Clone, Copy, Debug, PartialEq, Eq)]
 enum Element {
     Adds(More, Place),
     Close(Place),
-    Fail(Refusal),
 }
 
-// What is known of the gathered bytes: they are well-formed; a sequence is in progress (where it starts, the range of its next byte, and how many bytes it lacks);
-// or the first ill-formed sequence starts there.
-#[derive(Clone, Copy)]
+// A sequence of gathered bytes in progress: where it starts, the range of its next byte, and how many bytes it lacks.
+#[derive(Clone, Copy, Debug, PartialEq, Eq)]
+struct Rest {
+    start: u32,
+    low: u32,
+    high: u32,
+    left: u32,
+}
+
+// What is known of the gathered bytes: they are well-formed, a sequence is in progress, or the first ill-formed one starts there.
+#[derive(Clone, Copy, Debug, PartialEq, Eq)]
 enum Seen {
     Well,
-    Part(u32, u32, u32, u32),
+    Part(Rest),
     Ill(u32),
 }

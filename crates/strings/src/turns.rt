@@ -1,127 +1,144 @@
 //! The turns: what one character does, by where in a string it stands.
-ghost use Rattle.std.specs.Prelude.{◌≡◌};
-ghost use Rattle.strings.specs.Strings.{simple_of, plain_turn, escape_turn, half_turn, brace_turn, first_turn, number_turn, turn_of};
+ghost use Rattle.std.specs.Prelude.{◌≡◌, ◌<◌};
+ghost use Rattle.strings.specs.Strings.{simple_of, plain_turn, escape_turn, half_turn, brace_turn, first_turn, digit_turn, end_turn, number_turn, turn_of};
 ghost use Rattle.strings.specs.inner.Walking.{Sound};
 
-use crate::{Inside, More, Turn};
+use crate::{Digits, Inside, More, Turn};
 use answers::{Place, Refusal};
 
-// The character that one behind a backslash stands for, 0 for none.
+// The character that one behind a backslash stands for, if any.
 #[tactic(auto, unfolding(crate::specs::Strings::simple_of, crate::specs::Strings::simples, terms::specs::Terms::said, terms::specs::Terms::within))]
-fn simple_of(c: u32) -> u32
+fn simple_of(c: u32) -> Option<u32>
     ensures { result ≡ simple_of c }
 {
     match c {
-        0x22 => 0x22,
-        0x27 => 0x27,
-        0x5C => 0x5C,
-        0x74 => 9,
-        0x6E => 10,
-        0x72 => 13,
-        _ => 0,
+        0x22 | 0x27 | 0x5C => Some(c),
+        0x74 => Some(9),
+        0x6E => Some(10),
+        0x72 => Some(13),
+        _ => None,
     }
 }
 
 // Between characters.
-fn plain_turn(at: Place, c: u32) -> Turn
+#[tactic(auto, unfolding(crate::specs::Strings::plain_turn))]
+fn plain_turn(at: Place, c: u32) -> Result<Turn, Refusal>
     ensures { result ≡ plain_turn at c }
 {
-    if c == 0x22 {
-        return Turn::Close;
+    match c {
+        0x22 => Ok(Turn::Close),
+        0x5C => Ok(Turn::On(Inside::Escape, None)),
+        0x00..=0x1F | 0x7F => Err(Refusal::InvalidStringElement(at, c)),
+        _ => Ok(Turn::On(Inside::Plain, Some(More::Whole(c)))),
     }
-    if c == 0x5C {
-        return Turn::On(Inside::Escape, More::Nothing);
-    }
-    if c < 0x20 {
-        return Turn::Fail(Refusal::InvalidStringElement(at, c));
-    }
-    if c == 0x7F {
-        return Turn::Fail(Refusal::InvalidStringElement(at, c));
-    }
-    Turn::On(Inside::Plain, More::Whole(c))
 }
 
 // Behind a backslash.
-fn escape_turn(at: Place, c: u32) -> Turn
+#[tactic(auto, unfolding(crate::specs::Strings::escape_turn))]
+fn escape_turn(at: Place, c: u32) -> Result<Turn, Refusal>
     ensures { result ≡ escape_turn at c }
 {
     if c == 0x75 {
-        return Turn::On(Inside::Brace(at), More::Nothing);
+        return Ok(Turn::On(Inside::Brace(at), None));
     }
-    let digit = chars::to_hex(c);
-    if digit < 16 {
-        return Turn::On(Inside::Half(digit), More::Nothing);
+    if let Some(digit) = chars::to_hex(c) {
+        return Ok(Turn::On(Inside::Half(digit), None));
     }
-    let simple = simple_of(c);
-    if simple == 0 {
-        return Turn::Fail(Refusal::InvalidStringEscape(at, c));
-    }
-    Turn::On(Inside::Plain, More::Whole(simple))
+    let simple = simple_of(c).ok_or(Refusal::InvalidStringEscape(at, c))?;
+    Ok(Turn::On(Inside::Plain, Some(More::Whole(simple))))
 }
 
 // The second of two hexadecimal digits.
-fn half_turn(half: u32, at: Place, c: u32) -> Turn
-    requires { Sound (Inside.Half half) }
+#[tactic(auto, unfolding(crate::specs::Strings::half_turn))]
+fn half_turn(half: u32, at: Place, c: u32) -> Result<Turn, Refusal>
+    requires { half < 16 }
     ensures { result ≡ half_turn half at c }
 {
-    let digit = chars::to_hex(c);
-    if digit < 16 {
-        return Turn::On(Inside::Plain, More::One(half * 16 + digit));
-    }
-    Turn::Fail(Refusal::InvalidHexDigit(at, c))
+    let digit = chars::to_hex(c).ok_or(Refusal::InvalidHexDigit(at, c))?;
+    Ok(Turn::On(Inside::Plain, Some(More::One(half * 16 + digit))))
 }
 
 // Behind `\u`.
-fn brace_turn(u: Place, at: Place, c: u32) -> Turn
+#[tactic(auto, unfolding(crate::specs::Strings::brace_turn))]
+fn brace_turn(u: Place, at: Place, c: u32) -> Result<Turn, Refusal>
     ensures { result ≡ brace_turn u at c }
 {
     if c == 0x7B {
-        return Turn::On(Inside::First(u), More::Nothing);
+        return Ok(Turn::On(Inside::First(u), None));
     }
-    Turn::Fail(Refusal::WantedChar(at, 0x7B))
+    Err(Refusal::WantedChar(at, 0x7B))
 }
 
 // Behind `\u{`.
-fn first_turn(u: Place, at: Place, c: u32) -> Turn
+#[tactic(auto, unfolding(crate::specs::Strings::first_turn))]
+fn first_turn(u: Place, at: Place, c: u32) -> Result<Turn, Refusal>
     ensures { result ≡ first_turn u at c }
 {
-    let digit = chars::to_hex(c);
-    if digit < 16 {
-        return Turn::On(Inside::Number(u, at, digit, false), More::Nothing);
-    }
-    Turn::Fail(Refusal::InvalidHexDigit(at, c))
+    let value = chars::to_hex(c).ok_or(Refusal::InvalidHexDigit(at, c))?;
+    let number = Digits {
+        u,
+        first: at,
+        value,
+        lone: false,
+    };
+    Ok(Turn::On(Inside::Number(number), None))
 }
 
-// In the number. It overflows exactly where its upper four bits are taken already.
-fn number_turn(u: Place, first: Place, n: u32, lone: bool, at: Place, c: u32) -> Turn
-    ensures { result ≡ number_turn u first n lone at c }
+// A digit more of the number. It overflows exactly where its upper four bits are taken already.
+#[tactic(auto, unfolding(crate::specs::Strings::digit_turn))]
+fn digit_turn(number: Digits, at: Place, digit: u32) -> Result<Turn, Refusal>
+    requires { digit < 16 }
+    ensures { result ≡ digit_turn number at digit }
+{
+    let upper = number
+        .value
+        .checked_mul(16)
+        .ok_or(Refusal::NumberTooBig(at))?;
+    let more = Digits {
+        value: upper + digit,
+        lone: false,
+        ..number
+    };
+    Ok(Turn::On(Inside::Number(more), None))
+}
+
+// Behind the number.
+#[tactic(auto, unfolding(crate::specs::Strings::end_turn))]
+fn end_turn(number: Digits, at: Place, c: u32) -> Result<Turn, Refusal>
+    ensures { result ≡ end_turn number at c }
+{
+    if number.lone {
+        return Err(Refusal::LoneUnderscore(number.first));
+    }
+    if !encoding::is_scalar(number.value) {
+        return Err(Refusal::InvalidUnicodeValue(number.u, number.value));
+    }
+    if c != 0x7D {
+        return Err(Refusal::WantedChar(at, 0x7D));
+    }
+    Ok(Turn::On(Inside::Plain, Some(More::Whole(number.value))))
+}
+
+// In the number.
+#[tactic(auto, unfolding(crate::specs::Strings::number_turn))]
+fn number_turn(number: Digits, at: Place, c: u32) -> Result<Turn, Refusal>
+    ensures { result ≡ number_turn number at c }
 {
     if c == 0x5F {
-        return Turn::On(Inside::Number(u, first, n, true), More::Nothing);
+        let more = Digits {
+            lone: true,
+            ..number
+        };
+        return Ok(Turn::On(Inside::Number(more), None));
     }
-    let digit = chars::to_hex(c);
-    if digit < 16 {
-        if n <= 0x0FFF_FFFF {
-            return Turn::On(
-                Inside::Number(u, first, n * 16 + digit, false),
-                More::Nothing,
-            );
-        }
-        return Turn::Fail(Refusal::NumberTooBig(at));
+    match chars::to_hex(c) {
+        Some(digit) => digit_turn(number, at, digit),
+        None => end_turn(number, at, c),
     }
-    if lone {
-        return Turn::Fail(Refusal::LoneUnderscore(first));
-    }
-    if encoding::is_scalar(n) {
-        if c == 0x7D {
-            return Turn::On(Inside::Plain, More::Whole(n));
-        }
-        return Turn::Fail(Refusal::WantedChar(at, 0x7D));
-    }
-    Turn::Fail(Refusal::InvalidUnicodeValue(u, n))
 }
 
-pub(crate) fn turn_of(inside: Inside, at: Place, c: u32) -> Turn
+#[tactic(auto, unfolding(crate::specs::Strings::turn_of))]
+pub(crate) fn turn_of(inside: Inside, at: Place, c: u32) -> Result<Turn, Refusal>
     requires { Sound inside }
     ensures { result ≡ turn_of inside at c }
 {
@@ -131,6 +148,6 @@ pub(crate) fn turn_of(inside: Inside, at: Place, c: u32) -> Turn
         Inside::Half(half) => half_turn(half, at, c),
         Inside::Brace(u) => brace_turn(u, at, c),
         Inside::First(u) => first_turn(u, at, c),
-        Inside::Number(u, first, n, lone) => number_turn(u, first, n, lone, at, c),
+        Inside::Number(number) => number_turn(number, at, c),
     }
 }

@@ -1,39 +1,34 @@
 -- How the walk of `gather` comes from one place to another: by a turn, by the turns of an escape, or by a run of raw characters. All is said in the terms of `gather` itself.
-use Rattle.std.specs.Prelude.{ℕ, ◌+◌, ◌-◌, ◌≤◌, ◌<◌, ◌≡◌, Bool, not, ◌&&◌, ◌||◌, List, ◌++◌, length, get_or, take, drop, leb, eqb, if◌then◌else◌}
+use Rattle.std.specs.Prelude.{ℕ, ◌+◌, ◌-◌, ◌≤◌, ◌<◌, ◌≡◌, Bool, not, ◌&&◌, ◌||◌, List, ◌++◌, length, get_or, take, drop, eqb, Option, None, Some, Result, Ok, Err, if◌then◌else◌}
 use Rattle.terms.specs.Terms.{within, first}
 use Rattle.answers.specs.declared.Place.{Place}
 use Rattle.answers.specs.declared.Refusal.TheVariants.{IllFormed, UnexpectedEof}
 use Rattle.answers.specs.Places.{in_map}
 use Rattle.answers.specs.Caps.{cap}
-use Rattle.chars.specs.declared.Read.{Read}
-use Rattle.chars.specs.declared.Read.TheVariants.{End, Ill, Char}
-use Rattle.chars.specs.Utf8.{byte_at, on_by}
+use Rattle.answers.specs.declared.Refusal.{Refusal}
+use Rattle.chars.specs.Utf8.{Read, byte_at, on_by}
+use Rattle.chars.specs.inner.Single.{single_at}
 use Rattle.chars.specs.View.{folded_at, folded_from}
 use Rattle.strings.specs.declared.Inside.{Inside}
 use Rattle.strings.specs.declared.Inside.TheVariants.{Plain, Escape, Half, Brace, First, Number}
-use Rattle.strings.specs.declared.Expected.{Expected}
-use Rattle.strings.specs.declared.Expected.TheVariants.{Char as Stands, Fail as Fails}
 use Rattle.strings.specs.declared.Element.{Element}
-use Rattle.strings.specs.declared.Element.TheVariants.{Adds, Close, Fail}
+use Rattle.strings.specs.declared.Element.TheVariants.{Adds, Close}
 use Rattle.strings.specs.declared.Seen.{Seen}
 use Rattle.strings.specs.Strings.{added, bytes, refused, gather}
 use Rattle.strings.specs.inner.Checking.{feeds, pass, Fair, Proper}
 
--- A byte that is all there is of the character at a place; else 0x80. `ascii_stands` (proofs/TurnLaws.antt) ties it to `folded_at`.
-unfoldable pub ascii_at : List ℕ → Place → ℕ
-ascii_at s p =
-    if leb (length s) p.0 || leb cap p.0 then 0x80
-    else (if eqb (byte_at s p) 13 then 0x80
-    else byte_at s p)
+-- The character at a place, where one byte is all that it has. `ascii_stands` (proofs/TurnLaws.antt) ties it to `folded_at`.
+unfoldable pub ascii_at : List ℕ → Place → Option ℕ
+ascii_at s p = if single_at s p then Some (byte_at s p) else None
 
 -- The character at a place where a string cannot end: else 13, or 3. `expected_stands` and `expected_fails` (proofs/TurnLaws.antt) tie it to `gather`.
-unfoldable pub expected_of : ℕ → Place → Read → Expected
-expected_of o p End = Fails (UnexpectedEof (in_map o p))
-expected_of o p (Ill i) = Fails (IllFormed i)
-expected_of o p (Char c n) = Stands c n
+unfoldable pub expected_of : ℕ → Place → Read → Result (ℕ × Place) Refusal
+expected_of o p (Ok None) = Err (UnexpectedEof (in_map o p))
+expected_of o p (Err i) = Err (IllFormed i)
+expected_of o p (Ok (Some stands)) = Ok stands
 
 -- The same of a place of the text.
-unfoldable pub expected_at : List ℕ → ℕ → Place → Expected
+unfoldable pub expected_at : List ℕ → ℕ → Place → Result (ℕ × Place) Refusal
 expected_at s o p = expected_of o p (folded_at s p)
 
 -- Half a byte is a digit's value.
@@ -43,7 +38,7 @@ Sound Escape = Unit {0}
 Sound (Half h) = h < 16
 Sound (Brace u) = Unit {0}
 Sound (First u) = Unit {0}
-Sound (Number u d n lone) = Unit {0}
+Sound (Number k) = Unit {0}
 
 -- How many bytes an escape has so far at least. It has gathered none of them.
 abbrev pub begun : Inside → ℕ
@@ -52,7 +47,7 @@ begun Escape = 1
 begun (Half h) = 2
 begun (Brace u) = 2
 begun (First u) = 3
-begun (Number u d n lone) = 4
+begun (Number k) = 4
 
 -- The walk comes from i at p to j at n, and gathers g on the way: it goes on here as it goes on there, and gathers no more than it passes.
 pub record Comes (s : List ℕ) (o : ℕ) (i : Inside) (p : Place) (j : Inside) (g : List ℕ) (n : Place) : Type 0 where
@@ -67,18 +62,22 @@ pub record Beyond (s : List ℕ) (p n : Place) : Type 0 where
   pub capped : p.0 < cap
 
 -- What the walk does from i at p on.
-abbrev pub Leads : List ℕ → ℕ → Inside → Place → Element → Type 0
-Leads s o i p (Adds m n) = Beyond s p n × Comes s o i p Plain (added m) n × Proper m
-Leads s o i p (Close n) = Beyond s p n × ((h : List ℕ) → gather o i h (folded_from s p) ≡ bytes h (folded_from s n))
-Leads s o i p (Fail f) = (h : List ℕ) → gather o i h (folded_from s p) ≡ refused f
+abbrev pub Leads : List ℕ → ℕ → Inside → Place → Result Element Refusal → Type 0
+Leads s o i p (Ok (Adds m n)) = Beyond s p n × Comes s o i p Plain (added m) n × Proper m
+Leads s o i p (Ok (Close n)) = Beyond s p n × ((h : List ℕ) → gather o i h (folded_from s p) ≡ bytes h (folded_from s n))
+Leads s o i p (Err f) = (h : List ℕ) → gather o i h (folded_from s p) ≡ refused f
 
 -- A byte that is a character by itself, and that a string holds as it stands.
 unfoldable pub is_bare : ℕ → Bool
 is_bare b = within 0x20 0x7E b && not (eqb b 0x22 || eqb b 0x5C)
 
+-- The byte at a place is none.
+abbrev pub not_bare : List ℕ → ℕ → Bool
+not_bare s j = not (is_bare (get_or s j 0))
+
 -- The first of the places from, …, end - 1 whose byte is none; else the end.
 unfoldable pub bare_end : List ℕ → ℕ → ℕ → ℕ
-bare_end s from end = first (λ j. not (is_bare (get_or s j 0))) from (end - from)
+bare_end s from end = first (not_bare s) from (end - from)
 
 -- The r bytes from p on are raw characters: a string holds them as they stand.
 pub record Raw (s : List ℕ) (p : Place) (r : ℕ) : Type 0 where

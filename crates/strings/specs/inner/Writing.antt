@@ -1,19 +1,16 @@
 -- Decoding by two walks, of which the first measures and the second writes. `decoded_value` (proofs/DecodingLaws.antt) ties them to `decoded`.
-use Rattle.std.specs.Prelude.{ℕ, ◌-◌, ◌≤◌, Bool, ◌||◌, List, ◌++◌, length, get_or, drop, eqb}
+use Rattle.std.specs.Prelude.{ℕ, ◌-◌, ◌≤◌, Bool, ◌||◌, List, ◌++◌, length, get_or, drop, eqb, Option, None, Some}
 use Rattle.std.proofs.Math.Seq.{paste}
 use Rattle.terms.specs.Terms.{first}
 use Rattle.answers.specs.declared.Place.{Place}
-use Rattle.answers.specs.declared.Refusal.TheVariants.{BadSpan}
 use Rattle.strings.specs.declared.More.{More}
-use Rattle.strings.specs.declared.Decoded.{Decoded}
-use Rattle.strings.specs.declared.Decoded.TheVariants.{Value, Refused}
 use Rattle.strings.specs.Strings.{added, Gathered, bytes, refused}
 use Rattle.strings.specs.Decoding.{Spelt, spelt, none}
 
--- What the first walk answers: the count, or 22.
-unfoldable pub measured : Spelt → Decoded
-measured (spelt g) = Value (length g)
-measured none = Refused BadSpan
+-- What the first walk answers: the count, if there is a value.
+unfoldable pub measured : Spelt → Option ℕ
+measured (spelt g) = Some (length g)
+measured none = None
 
 -- The rule is accepted, and a buffer of so many bytes has room for what it gathers.
 abbrev pub Roomy : Gathered → ℕ → Type 0
@@ -29,9 +26,13 @@ filled (refused f) b = b
 unfoldable pub is_mark : ℕ → Bool
 is_mark b = eqb b 0x22 || eqb b 0x5C
 
+-- The byte at a place is one.
+abbrev pub marked : List ℕ → ℕ → Bool
+marked s j = is_mark (get_or s j 0)
+
 -- How many bytes from a place on are no mark.
 unfoldable pub unmarked : List ℕ → Place → ℕ
-unmarked s p = first (λ j. is_mark (get_or s j 0)) p.0 (length s - p.0) - p.0
+unmarked s p = first (marked s) p.0 (length s - p.0) - p.0
 
 -- These bytes in a buffer from n on, and their count.
 unfoldable pub copied : List ℕ → Place → ℕ → List ℕ → ℕ × List ℕ
