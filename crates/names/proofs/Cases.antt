@@ -7,14 +7,14 @@ use Rattle.answers.specs.Caps.{first_of, length_verdict, map_verdict, text_verdi
 use Rattle.chars.specs.Utf8.{byte_at, leads, lead_of, is_tail, char_by, char_at}
 use Rattle.chars.specs.View.{seen_at, seen_by, chars_from}
 use Rattle.parts.specs.Parts.{letters, letter_of, step_by, ended_by, stepped, parts_from}
-use Rattle.names.specs.Names.{cut, span_verdict, percent_verdict, plain_verdict, explicit_verdict, named_by, plain_id, explicit_id, handed}
+use Rattle.names.specs.Names.{cut, span_verdict, percent_verdict, plain_verdict, explicit_verdict, named_by, plain_id, explicit_id, part_of, numbered, handed}
 
 abbrev pub span : ℕ → ℕ → Span
 span from last = record { start = record { 0 = from }; end = record { 0 = last } }
 
 -- The plain identifier from one position to another, in a text that stands at this offset.
 unfoldable pub plain : List ℕ → ℕ → ℕ → ℕ → List ℕ × List ℕ
-unfolding handed explicit_id plain_id named_by explicit_verdict plain_verdict parts_from stepped ended_by step_by letter_of letters
+unfolding handed numbered part_of explicit_id plain_id named_by explicit_verdict plain_verdict parts_from stepped ended_by step_by letter_of letters
     percent_verdict span_verdict cut chars_from seen_by seen_at char_at char_by is_tail lead_of leads byte_at
     text_verdict map_verdict length_verdict first_of told said within ascii
 plain s o from last = handed s (plain_id s o (span from last))

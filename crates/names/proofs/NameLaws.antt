@@ -1,11 +1,9 @@
 -- What the checks of a span decide, and where an identifier lies.
-use Rattle.std.specs.Prelude.{if◌then◌else◌}
+use Rattle.std.specs.Prelude.{Ok, Err, if◌then◌else◌}
 use Rattle.std.proofs.Common.{◌≡◌, ℕ, ◌+◌, ◌<◌, ◌≤◌, Bool, true, false, ◌&&◌, ◌||◌, eqb, ltb, List, length, refl, arith, ltb-false, ltb-true, le-ltb}
 use Rattle.answers.specs.declared.Span.{Span}
-use Rattle.answers.specs.declared.Verdict.{Verdict}
-use Rattle.answers.specs.declared.Verdict.TheVariants.{Accepted, Refused}
 use Rattle.answers.specs.declared.Refusal.{Refusal}
-use Rattle.answers.specs.Caps.{first_of, text_verdict}
+use Rattle.answers.specs.Caps.{Verdict, accepted, first_of, text_verdict}
 use Rattle.answers.proofs.CapsLaws.{refused_not, first_both}
 use Rattle.chars.specs.Utf8.{byte_at, on_by}
 use Rattle.chars.specs.View.{chars_from}
@@ -20,7 +18,7 @@ pub record Lies (s : List ℕ) (o : ℕ) (span : Span) : Type 0 where
   pub forward : span.start.0 ≤ span.end.0
   pub inside : span.end.0 ≤ o + length s
 
-pub span_lies : (s : List ℕ) (o : ℕ) (span : Span) → span_verdict s o span ≡ Accepted → Lies s o span
+pub span_lies : (s : List ℕ) (o : ℕ) (span : Span) → span_verdict s o span ≡ accepted → Lies s o span
 unfolding span_verdict
 span_lies s o span e =
     go (ltb span.start.0 o) refl (ltb span.end.0 span.start.0) refl (ltb (o + length s) span.end.0) refl
@@ -28,7 +26,7 @@ span_lies s o span e =
   where
     go : (a : Bool) → ltb span.start.0 o ≡ a → (b : Bool) → ltb span.end.0 span.start.0 ≡ b
         → (d : Bool) → ltb (o + length s) span.end.0 ≡ d → (f : Bool)
-        → (if a || (b || (d || f)) then Refused Refusal.BadSpan else Accepted) ≡ Accepted → Lies s o span
+        → (if a || (b || (d || f)) then Err Refusal.BadSpan else accepted) ≡ accepted → Lies s o span
     go true ha b hb d hd f e = absurd (refused_not e)
     go false ha true hb d hd f e = absurd (refused_not e)
     go false ha false hb true hd f e = absurd (refused_not e)
@@ -37,27 +35,27 @@ span_lies s o span e =
 
 -- of a span that lies so, its cuts decide
 pub span_cuts : (s : List ℕ) (o : ℕ) (span : Span) → Lies s o span
-    → span_verdict s o span ≡ (if cut s (start_in o span) || cut s (end_in o span) then Refused Refusal.BadSpan else Accepted)
+    → span_verdict s o span ≡ (if cut s (start_in o span) || cut s (end_in o span) then Err Refusal.BadSpan else accepted)
 unfolding span_verdict
 span_cuts s o span l = rw (le-ltb _ _ l.behind, le-ltb _ _ l.forward, le-ltb _ _ l.inside)
 
-pub percent_leads : (s : List ℕ) (o : ℕ) (span : Span) → percent_verdict s o span ≡ Accepted → span.start.0 < span.end.0
+pub percent_leads : (s : List ℕ) (o : ℕ) (span : Span) → percent_verdict s o span ≡ accepted → span.start.0 < span.end.0
 unfolding percent_verdict
 percent_leads s o span e = go (ltb span.start.0 span.end.0) refl e
   where
     go : (a : Bool) → ltb span.start.0 span.end.0 ≡ a
-        → (if a && eqb (byte_at s (start_in o span)) 0x25 then Accepted else Refused Refusal.BadSpan) ≡ Accepted → span.start.0 < span.end.0
+        → (if a && eqb (byte_at s (start_in o span)) 0x25 then accepted else Err Refusal.BadSpan) ≡ accepted → span.start.0 < span.end.0
     go true h e = ltb-true _ _ h
     go false h e = absurd (refused_not e)
 
 -- where the checks pass, the parts decide
-pub plain_parts : (s : List ℕ) (o : ℕ) (span : Span) → text_verdict o (length s) ≡ Accepted → span_verdict s o span ≡ Accepted
+pub plain_parts : (s : List ℕ) (o : ℕ) (span : Span) → text_verdict o (length s) ≡ accepted → span_verdict s o span ≡ accepted
     → plain_id s o span ≡ named_by (parts_from span.start (end_in o span) Part.First (chars_from s (start_in o span))) (start_in o span) (end_in o span)
 unfolding plain_id plain_verdict first_of
 plain_parts s o span t l = rw (t, l)
 
 pub explicit_parts : (s : List ℕ) (o : ℕ) (span : Span)
-    → text_verdict o (length s) ≡ Accepted → span_verdict s o span ≡ Accepted → percent_verdict s o span ≡ Accepted
+    → text_verdict o (length s) ≡ accepted → span_verdict s o span ≡ accepted → percent_verdict s o span ≡ accepted
     → let first = on_by 1 (start_in o span) in
     explicit_id s o span ≡ named_by (parts_from span.start (end_in o span) Part.First (chars_from s first)) first (end_in o span)
 unfolding explicit_id explicit_verdict first_of
@@ -69,19 +67,19 @@ unfolding plain_id plain_verdict named_by
 plain_within s o span = go (plain_verdict s o span) refl
   where
     go : (v : Verdict) → plain_verdict s o span ≡ v → Within s (named_by v (start_in o span) (end_in o span))
-    go Accepted e =
+    go (Ok _) e =
         let l = span_lies s o span (first_both (span_verdict s o span) _ (first_both (text_verdict o (length s)) _ e).1).0 in
         (omega arith, omega arith)
-    go (Refused f) e = tt
+    go (Err f) e = tt
 
 pub explicit_within : (s : List ℕ) (o : ℕ) (span : Span) → Within s (explicit_id s o span)
 unfolding explicit_id explicit_verdict named_by
 explicit_within s o span = go (explicit_verdict s o span) refl
   where
     go : (v : Verdict) → explicit_verdict s o span ≡ v → Within s (named_by v (on_by 1 (start_in o span)) (end_in o span))
-    go Accepted e =
+    go (Ok _) e =
         let b = first_both (span_verdict s o span) _ (first_both (text_verdict o (length s)) _ e).1 in
         let l = span_lies s o span b.0 in
         let k = percent_leads s o span (first_both (percent_verdict s o span) _ b.1).0 in
         (omega arith, omega arith)
-    go (Refused f) e = tt
+    go (Err f) e = tt

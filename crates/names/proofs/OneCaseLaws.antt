@@ -1,20 +1,18 @@
 -- An identifier whose letters are of one case is accepted where each byte may stand behind the one before it.
-use Rattle.std.specs.Prelude.{if◌then◌else◌}
+use Rattle.std.specs.Prelude.{Ok, if◌then◌else◌}
 use Rattle.std.proofs.Common.{◌≡◌, ℕ, zero, suc, ◌+◌, ◌-◌, ◌%◌, ◌^◌, ◌<◌, ◌≤◌, min, Bool, true, false, not, ◌&&◌, ◌||◌, eqb, ltb, ◌⊎◌, List, [], length, get_or, sym, refl, ap, ◌∙◌, inl, inr, arith, ltb-false, ltb-true, lt-ltb, eq-eqb, ne_eqb, eqb-true}
 use borrow.Author.Tests.{eqb-false, not-true, not-false}
 use Rattle.terms.specs.Terms.{said, within, bit}
 use Rattle.terms.proofs.TestLaws.{and_both, and_lacks, or_either, within_true, within_yes, within_above, within_below, clash}
 use Rattle.terms.proofs.TableLaws.{in_match, word, is_key, is_keys, up, down}
 use Rattle.answers.specs.declared.Position.{Position}
-use Rattle.answers.specs.declared.Verdict.TheVariants.{Accepted}
 use Rattle.answers.specs.Places.{place}
-use Rattle.answers.specs.Caps.{cap}
+use Rattle.answers.specs.Caps.{accepted, cap}
 use Rattle.chars.specs.Utf8.{byte_at}
 use Rattle.chars.specs.View.{chars_from}
 use Rattle.chars.proofs.Utf8Laws.{ascii_at_lem}
 use Rattle.parts.specs.declared.Letter.{Letter}
 use Rattle.parts.specs.declared.Part.{Part}
-use Rattle.parts.specs.declared.Step.{Step}
 use Rattle.parts.specs.Parts.{letters, letter_of, step_by, ended_by, parts_from}
 use Rattle.names.specs.inner.OneCase.{case_of, follows, Follow}
 use Rattle.parts.proofs.PartLaws.{parts_ended, parts_on}
@@ -77,41 +75,43 @@ unfolding is_next mine
 mine_not_next true = refl
 mine_not_next false = refl
 
-first_on : (upper : Bool) → step_by Part.First (own_of upper) ≡ Step.On (mine upper)
-unfolding step_by own_of mine
-first_on true = refl
-first_on false = refl
+-- what a character c does, where the span starts at q
+module _ (q : Position) (c : ℕ) where
+  first_on : (upper : Bool) → step_by q c Part.First (own_of upper) ≡ Ok (mine upper)
+  unfolding step_by own_of mine
+  first_on true = refl
+  first_on false = refl
 
-own_on : (upper : Bool) (part : Part) → inside upper part ≡ true → step_by part (own_of upper) ≡ Step.On (mine upper)
-unfolding inside step_by own_of mine
-own_on upper Part.First h = absurd (clash false h refl)
-own_on true Part.Next h = refl
-own_on false Part.Next h = refl
-own_on true Part.Digits h = refl
-own_on false Part.Digits h = refl
-own_on true Part.Upper h = refl
-own_on false Part.Upper h = absurd (clash false h refl)
-own_on true Part.Lower h = absurd (clash false h refl)
-own_on false Part.Lower h = refl
+  own_on : (upper : Bool) (part : Part) → inside upper part ≡ true → step_by q c part (own_of upper) ≡ Ok (mine upper)
+  unfolding inside step_by own_of mine
+  own_on upper Part.First h = absurd (clash false h refl)
+  own_on true Part.Next h = refl
+  own_on false Part.Next h = refl
+  own_on true Part.Digits h = refl
+  own_on false Part.Digits h = refl
+  own_on true Part.Upper h = refl
+  own_on false Part.Upper h = absurd (clash false h refl)
+  own_on true Part.Lower h = absurd (clash false h refl)
+  own_on false Part.Lower h = refl
 
-digit_on : (upper : Bool) (part : Part) → inside upper part ≡ true
-    → (step_by part Letter.Digit ≡ Step.On (behind_digit part)) × ((inside upper (behind_digit part) ≡ true) × (is_next (behind_digit part) ≡ false))
-unfolding inside step_by behind_digit is_next
-digit_on upper Part.First h = absurd (clash false h refl)
-digit_on upper Part.Next h = (refl, (refl, refl))
-digit_on upper Part.Digits h = (refl, (refl, refl))
-digit_on upper Part.Upper h = (refl, (h, refl))
-digit_on upper Part.Lower h = (refl, (h, refl))
+  digit_on : (upper : Bool) (part : Part) → inside upper part ≡ true
+      → (step_by q c part Letter.Digit ≡ Ok (behind_digit part)) × ((inside upper (behind_digit part) ≡ true) × (is_next (behind_digit part) ≡ false))
+  unfolding inside step_by behind_digit is_next
+  digit_on upper Part.First h = absurd (clash false h refl)
+  digit_on upper Part.Next h = (refl, (refl, refl))
+  digit_on upper Part.Digits h = (refl, (refl, refl))
+  digit_on upper Part.Upper h = (refl, (h, refl))
+  digit_on upper Part.Lower h = (refl, (h, refl))
 
-dash_on : (upper : Bool) (part : Part) → inside upper part ≡ true → is_next part ≡ false → step_by part Letter.Dash ≡ Step.On Part.Next
-unfolding inside step_by is_next
-dash_on upper Part.First h n = absurd (clash false h refl)
-dash_on upper Part.Next h n = absurd (clash true refl n)
-dash_on upper Part.Digits h n = refl
-dash_on upper Part.Upper h n = refl
-dash_on upper Part.Lower h n = refl
+  dash_on : (upper : Bool) (part : Part) → inside upper part ≡ true → is_next part ≡ false → step_by q c part Letter.Dash ≡ Ok Part.Next
+  unfolding inside step_by is_next
+  dash_on upper Part.First h n = absurd (clash false h refl)
+  dash_on upper Part.Next h n = absurd (clash true refl n)
+  dash_on upper Part.Digits h n = refl
+  dash_on upper Part.Upper h n = refl
+  dash_on upper Part.Lower h n = refl
 
-ends_inside : (q : Position) (upper : Bool) (part : Part) → inside upper part ≡ true → is_next part ≡ false → ended_by q part ≡ Accepted
+ends_inside : (q : Position) (upper : Bool) (part : Part) → inside upper part ≡ true → is_next part ≡ false → ended_by q part ≡ accepted
 unfolding inside ended_by is_next
 ends_inside q upper Part.First h n = absurd (clash false h refl)
 ends_inside q upper Part.Next h n = absurd (clash true refl n)
@@ -142,7 +142,7 @@ low_small false = (omega arith, omega arith)
 
 module _ (q : Position) (upper : Bool) (s : List ℕ) (from e : ℕ) (inText : e ≤ length s) (inCap : e ≤ cap) where
   -- one byte that is a character by itself, and what it does
-  turn : (part next : Part) (i : ℕ) → i < e → get_or s i 0 < 0x80 → step_by part (letter_of (get_or s i 0)) ≡ Step.On next
+  turn : (part next : Part) (i : ℕ) → i < e → get_or s i 0 < 0x80 → step_by q (get_or s i 0) part (letter_of (get_or s i 0)) ≡ Ok next
       → parts_from q (place e) part (chars_from s (place i)) ≡ parts_from q (place e) next (chars_from s (place (i + 1)))
   unfolding byte_at
   turn part next i h small on =
@@ -150,7 +150,7 @@ module _ (q : Position) (upper : Bool) (s : List ℕ) (from e : ℕ) (inText : e
 
   -- from the byte behind k on
   walk : Follow s (low_of upper) from e → ((k : ℕ) → k + 1 ≡ e → eqb (get_or s k 0) 0x2D ≡ false) → (n k : ℕ) → k + 1 + n ≡ e → from ≤ k → (part : Part)
-      → inside upper part ≡ true → is_next part ≡ eqb (get_or s k 0) 0x2D → parts_from q (place e) part (chars_from s (place (k + 1))) ≡ Accepted
+      → inside upper part ≡ true → is_next part ≡ eqb (get_or s k 0) 0x2D → parts_from q (place e) part (chars_from s (place (k + 1))) ≡ accepted
   unfolding Kinds inside is_next
   walk f last zero k t a part i d =
       parts_ended q (place e) part s (place (k + 1)) (omega arith) ∙ ends_inside q upper part i (d ∙ last k (omega arith))
@@ -160,18 +160,18 @@ module _ (q : Position) (upper : Bool) (s : List ℕ) (from e : ℕ) (inText : e
       b = get_or s (k + 1) 0
 
       go : Kinds upper (get_or s k 0) b
-          → ((next : Part) → inside upper next ≡ true → is_next next ≡ eqb b 0x2D → parts_from q (place e) next (chars_from s (place (k + 1 + 1))) ≡ Accepted)
-          → parts_from q (place e) part (chars_from s (place (k + 1))) ≡ Accepted
+          → ((next : Part) → inside upper next ≡ true → is_next next ≡ eqb b 0x2D → parts_from q (place e) next (chars_from s (place (k + 1 + 1))) ≡ accepted)
+          → parts_from q (place e) part (chars_from s (place (k + 1))) ≡ accepted
       go (inl (l, h)) ih =
           let z = low_small upper in
-          turn part (mine upper) (k + 1) (omega arith) (omega arith) (ap (step_by part) (own_letter upper b l h) ∙ own_on upper part i)
+          turn part (mine upper) (k + 1) (omega arith) (omega arith) (ap (step_by q b part) (own_letter upper b l h) ∙ own_on q b upper part i)
           ∙ ih (mine upper) (mine_inside upper) (mine_not_next upper ∙ sym (ne_eqb b 0x2D (λ e. omega arith)))
       go (inr (inl (l, h))) ih =
-          let on = digit_on upper part i in
-          turn part (behind_digit part) (k + 1) (omega arith) (omega arith) (ap (step_by part) (digit_letter b l h) ∙ on.0)
+          let on = digit_on q b upper part i in
+          turn part (behind_digit part) (k + 1) (omega arith) (omega arith) (ap (step_by q b part) (digit_letter b l h) ∙ on.0)
           ∙ ih (behind_digit part) on.1.0 (on.1.1 ∙ sym (ne_eqb b 0x2D (λ e. omega arith)))
       go (inr (inr (dash, free))) ih =
-          turn part Part.Next (k + 1) (omega arith) (omega arith) (ap (step_by part) (dash_letter b dash) ∙ dash_on upper part i (d ∙ free))
+          turn part Part.Next (k + 1) (omega arith) (omega arith) (ap (step_by q b part) (dash_letter b dash) ∙ dash_on q b upper part i (d ∙ free))
           ∙ ih Part.Next refl (sym (eq-eqb b 0x2D dash))
 
 case_low : (b : ℕ) → case_of b ≡ low_of (ltb b 0x61)
@@ -188,10 +188,10 @@ case_small b = rw (case_low b) (low_small (ltb b 0x61)).1
 -- THE LAW: a letter of its case, then bytes that may each follow the one before, and no `-` at the end: the parts are accepted
 pub one_case_accepted : (q : Position) (s : List ℕ) (from e : ℕ) → from < e → e ≤ length s → e ≤ cap → (get_or s (e - 1) 0 ≡ 0x2D → ⊥)
     → within (case_of (get_or s from 0)) (case_of (get_or s from 0) + 25) (get_or s from 0) ≡ true → Follow s (case_of (get_or s from 0)) from e
-    → parts_from q (place e) Part.First (chars_from s (place from)) ≡ Accepted
+    → parts_from q (place e) Part.First (chars_from s (place from)) ≡ accepted
 one_case_accepted q s from e h t c dashless own f =
     turn q upper s from e t c Part.First (mine upper) from h (omega (arith, w, low_small upper))
-    (ap (step_by Part.First) (own_letter upper b w.0 w.1) ∙ first_on upper)
+    (ap (step_by q b Part.First) (own_letter upper b w.0 w.1) ∙ first_on q b upper)
     ∙ walk q upper s from e t c (λ k a g. rw (← case_low b) (f k a g)) last (e - (from + 1)) from (omega arith) (omega arith) (mine upper) (mine_inside upper)
     (mine_not_next upper ∙ sym (ne_eqb b 0x2D (λ z. omega (arith, w, low_small upper))))
   where

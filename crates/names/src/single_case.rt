@@ -1,7 +1,7 @@
 //! Identifiers whose letters are all of one case, as most are: sixteen bytes at a time, with no branch on any of them.
 ghost use Rattle.std.specs.Prelude.{◌≡◌, ◌+◌, ◌-◌, ◌<◌, ◌≤◌, min, true, not, ◌&&◌, ltb, length, nat_lt, if◌then◌else◌};
 ghost use Rattle.terms.specs.Terms.{bit, within};
-ghost use Rattle.answers.specs.declared.Verdict.TheVariants.{Accepted};
+ghost use Rattle.answers.specs.Caps.{accepted};
 ghost use Rattle.answers.specs.declared.Position.{Position};
 ghost use Rattle.chars.specs.View.{chars_from};
 ghost use Rattle.parts.specs.declared.Part.{Part};
@@ -126,7 +126,7 @@ fn joined(text: &[u8], from: usize, end: usize, low: u8) -> bool
 // Yes only where the parts are accepted.
 pub(crate) fn one_case(text: &[u8], from: Place, end: Place) -> bool
     requires { (end.0 ≤ length text.now) × (end.0 ≤ 65536) }
-    ensures { result ≡ true → (q : Position) → parts_from q end Part.First (chars_from text.now from) ≡ Accepted }
+    ensures { result ≡ true → (q : Position) → parts_from q end Part.First (chars_from text.now from) ≡ accepted }
 {
     let at = from.0 as usize;
     let to = end.0 as usize;
