@@ -1,14 +1,11 @@
 -- What the checks of a span decide, and where an identifier lies.
 use Rattle.std.specs.Prelude.{Ok, Err, if◌then◌else◌}
-use Rattle.std.proofs.Common.{◌≡◌, ℕ, ◌+◌, ◌<◌, ◌≤◌, Bool, true, false, ◌&&◌, ◌||◌, eqb, ltb, List, length, refl, arith, ltb-false, ltb-true, le-ltb}
+use Rattle.std.proofs.Common.{◌≡◌, ℕ, ◌+◌, ◌<◌, ◌≤◌, Bool, true, false, ◌&&◌, ◌||◌, eqb, ltb, List, length, refl, arith, ltb-false, ltb-true}
 use Rattle.answers.specs.declared.Span.{Span}
 use Rattle.answers.specs.declared.Refusal.{Refusal}
-use Rattle.answers.specs.Caps.{Verdict, accepted, first_of, text_verdict}
+use Rattle.answers.specs.Caps.{Verdict, accepted, text_verdict}
 use Rattle.answers.proofs.CapsLaws.{refused_not, first_both}
 use Rattle.chars.specs.Utf8.{byte_at, on_by}
-use Rattle.chars.specs.View.{chars_from}
-use Rattle.parts.specs.declared.Part.{Part}
-use Rattle.parts.specs.Parts.{parts_from}
 use Rattle.names.specs.Names.{start_in, end_in, cut, span_verdict, percent_verdict, plain_verdict, explicit_verdict, named_by, plain_id, explicit_id}
 use Rattle.names.specs.inner.Within.{Within}
 
@@ -33,12 +30,7 @@ span_lies s o span e =
     go false ha false hb false hd f e =
         record { behind = ltb-false _ _ ha; forward = ltb-false _ _ hb; inside = ltb-false _ _ hd }
 
--- of a span that lies so, its cuts decide
-pub span_cuts : (s : List ℕ) (o : ℕ) (span : Span) → Lies s o span
-    → span_verdict s o span ≡ (if cut s (start_in o span) || cut s (end_in o span) then Err Refusal.BadSpan else accepted)
-unfolding span_verdict
-span_cuts s o span l = rw (le-ltb _ _ l.behind, le-ltb _ _ l.forward, le-ltb _ _ l.inside)
-
+-- where an accepted explicit span begins: before its end
 pub percent_leads : (s : List ℕ) (o : ℕ) (span : Span) → percent_verdict s o span ≡ accepted → span.start.0 < span.end.0
 unfolding percent_verdict
 percent_leads s o span e = go (ltb span.start.0 span.end.0) refl e
@@ -47,19 +39,6 @@ percent_leads s o span e = go (ltb span.start.0 span.end.0) refl e
         → (if a && eqb (byte_at s (start_in o span)) 0x25 then accepted else Err Refusal.BadSpan) ≡ accepted → span.start.0 < span.end.0
     go true h e = ltb-true _ _ h
     go false h e = absurd (refused_not e)
-
--- where the checks pass, the parts decide
-pub plain_parts : (s : List ℕ) (o : ℕ) (span : Span) → text_verdict o (length s) ≡ accepted → span_verdict s o span ≡ accepted
-    → plain_id s o span ≡ named_by (parts_from span.start (end_in o span) Part.First (chars_from s (start_in o span))) (start_in o span) (end_in o span)
-unfolding plain_id plain_verdict first_of
-plain_parts s o span t l = rw (t, l)
-
-pub explicit_parts : (s : List ℕ) (o : ℕ) (span : Span)
-    → text_verdict o (length s) ≡ accepted → span_verdict s o span ≡ accepted → percent_verdict s o span ≡ accepted
-    → let first = on_by 1 (start_in o span) in
-    explicit_id s o span ≡ named_by (parts_from span.start (end_in o span) Part.First (chars_from s first)) first (end_in o span)
-unfolding explicit_id explicit_verdict first_of
-explicit_parts s o span t l p = rw (t, l, p)
 
 -- an identifier lies in the text
 pub plain_within : (s : List ℕ) (o : ℕ) (span : Span) → Within s (plain_id s o span)

@@ -1,8 +1,8 @@
 -- An identifier whose letters are of one case is accepted where each byte may stand behind the one before it.
 use Rattle.std.specs.Prelude.{Ok, if◌then◌else◌}
-use Rattle.std.proofs.Common.{◌≡◌, ℕ, zero, suc, ◌+◌, ◌-◌, ◌%◌, ◌^◌, ◌<◌, ◌≤◌, min, Bool, true, false, not, ◌&&◌, ◌||◌, eqb, ltb, ◌⊎◌, List, [], length, get_or, sym, refl, ap, ◌∙◌, inl, inr, arith, ltb-false, ltb-true, lt-ltb, eq-eqb, ne_eqb, eqb-true}
+use Rattle.std.proofs.Common.{◌≡◌, ℕ, zero, suc, ◌+◌, ◌-◌, ◌%◌, ◌^◌, ◌<◌, ◌≤◌, Bool, true, false, not, ◌&&◌, ◌||◌, eqb, ltb, ◌⊎◌, List, [], length, get_or, sym, refl, ap, ◌∙◌, inl, inr, arith, ltb-false, ltb-true, lt-ltb, eq-eqb, ne_eqb, eqb-true}
 use borrow.Author.Tests.{eqb-false, not-true, not-false}
-use Rattle.terms.specs.Terms.{said, within, bit}
+use Rattle.terms.specs.Terms.{said, within}
 use Rattle.terms.proofs.TestLaws.{and_both, and_lacks, or_either, within_true, within_yes, within_above, within_below, clash}
 use Rattle.terms.proofs.TableLaws.{in_match, word, is_key, is_keys, up, down}
 use Rattle.answers.specs.declared.Position.{Position}
@@ -219,45 +219,28 @@ wrapped low b r l h e = go (ltb r 26) refl (ltb (r + low) 256) refl
     go false p true g = let z = ltb-false r 26 p in let y = ltb-true (r + low) 256 g in sym (within_above low (low + 25) b (omega arith))
     go false p false g = let y = ltb-false (r + low) 256 g in sym (within_below low (low + 25) b (omega arith))
 
--- the least of two numbers that are 0 or 1
-pub least_none : (s t : Bool) (any : ℕ) → min (bit s) (bit t) ≡ 0 → any ≡ (if s && t then 1 else any)
-least_none true true any e = absurd (omega arith)
-least_none true false any e = refl
-least_none false t any e = refl
-
-pub least_some : (s t : Bool) (any : ℕ) → (min (bit s) (bit t) ≡ 0 → ⊥) → 1 ≡ (if s && t then 1 else any)
-least_some true true any e = refl
-least_some true false any e = absurd (e refl)
-least_some false true any e = absurd (e refl)
-least_some false false any e = absurd (e refl)
-
 -- of the n bytes from `at` on, what stands behind each of the first i may follow it
 abbrev pub Until : List ℕ → ℕ → ℕ → ℕ → ℕ → Type 0
 Until s low at n i = (k : ℕ) → at ≤ k → k + 1 < at + n → k < at + i → follows low (get_or s k 0) (get_or s (k + 1) 0) ≡ true
 
-module _ (s : List ℕ) (low at n any : ℕ) where
-  pub until_none : any ≡ 0 → Until s low at n 0
-  until_none z k a h l = absurd (omega arith)
+module _ (s : List ℕ) (low at n : ℕ) where
+  pub until_none : Until s low at n 0
+  until_none k a h l = absurd (omega arith)
 
-  pub until_more : (i now : ℕ) → (any ≡ 0 → Until s low at n i)
-      → now ≡ (if ltb (i + 1) n && not (follows low (get_or s (at + i) 0) (get_or s (at + i + 1) 0)) then 1 else any) → now ≡ 0 → Until s low at n (i + 1)
-  until_more i now before e z k a h l = go odd refl (sym e ∙ z)
+  -- what stands behind byte i may, or is none of the n
+  pub until_more : (i : ℕ) (any : Bool) → (any ≡ false → Until s low at n i)
+      → (any || (ltb (i + 1) n && not (follows low (get_or s (at + i) 0) (get_or s (at + i + 1) 0)))) ≡ false → Until s low at n (i + 1)
+  until_more i true before e k a h l = absurd (clash true refl e)
+  until_more i false before e k a h l = go (eqb k (at + i)) refl
     where
       next : Bool
       next = follows low (get_or s (at + i) 0) (get_or s (at + i + 1) 0)
 
-      odd : Bool
-      odd = ltb (i + 1) n && not next
-
-      near : odd ≡ false → any ≡ 0 → (v : Bool) → eqb k (at + i) ≡ v → follows low (get_or s k 0) (get_or s (k + 1) 0) ≡ true
-      near t o true v =
+      go : (v : Bool) → eqb k (at + i) ≡ v → follows low (get_or s k 0) (get_or s (k + 1) 0) ≡ true
+      go true v =
           let q : k ≡ at + i = eqb-true k (at + i) v in
-          rw q (not-false next (and_lacks (ltb (i + 1) n) (not next) t (lt-ltb (i + 1) n (omega arith))))
-      near t o false v = before o k a h (omega (arith, eqb-false k (at + i) v))
-
-      go : (t : Bool) → odd ≡ t → (if t then 1 else any) ≡ 0 → follows low (get_or s k 0) (get_or s (k + 1) 0) ≡ true
-      go true t o = absurd (omega arith)
-      go false t o = near t o (eqb k (at + i)) refl
+          rw q (not-false next (and_lacks (ltb (i + 1) n) (not next) e (lt-ltb (i + 1) n (omega arith))))
+      go false v = before refl k a h (omega (arith, eqb-false k (at + i) v))
 
 pub until_all : (s : List ℕ) (low at n i : ℕ) → n ≤ i + 1 → Until s low at n i → Follow s low at (at + n)
 until_all s low at n i l f k a h = f k a h (omega arith)
@@ -273,12 +256,5 @@ follow_on s low from at n end e f g k a h = go (ltb (k + 1) (at + 1)) refl
     go true t = f k a (ltb-true (k + 1) (at + 1) t)
     go false t = let z : at + 1 ≤ k + 1 = ltb-false (k + 1) (at + 1) t in g k (omega arith) (omega arith)
 
-pub follow_two : (s : List ℕ) (low k : ℕ) → bit (not (follows low (get_or s k 0) (get_or s (k + 1) 0))) ≡ 0 → Follow s low k (k + 2)
-follow_two s low k z j a h = rw j_is (go (follows low (get_or s k 0) (get_or s (k + 1) 0)) z)
-  where
-    j_is : j ≡ k
-    j_is = omega arith
-
-    go : (t : Bool) → bit (not t) ≡ 0 → t ≡ true
-    go true e = refl
-    go false e = absurd (omega arith)
+pub follow_two : (s : List ℕ) (low k : ℕ) → follows low (get_or s k 0) (get_or s (k + 1) 0) ≡ true → Follow s low k (k + 2)
+follow_two s low k h j a b = let j_is : j ≡ k = omega arith in rw j_is h

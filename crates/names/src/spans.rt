@@ -100,11 +100,7 @@ pub fn parse_id<'a>(text: &'a [u8], offset: u32, span: Span) -> Result<&'a [u8],
 
 // The bytes of an explicit identifier, without its `%`.
 #[tactic(auto, unfolding(crate::specs::Names::part_of), using(crate::proofs::NameLaws::explicit_within))]
-pub fn parse_explicit_id<'a>(
-    text: &'a [u8],
-    offset: u32,
-    span: Span,
-) -> Result<&'a [u8], Refusal>
+pub fn parse_explicit_id<'a>(text: &'a [u8], offset: u32, span: Span) -> Result<&'a [u8], Refusal>
     ensures { bytes_of result ≡ part_of text.now (explicit_id text.now offset span) }
 {
     Ok(part(text, validate_explicit_id(text, offset, span)?))
