@@ -73,17 +73,17 @@ def ranges(points):
     return found
 
 
-def array(name, numbers):
-    """A const array, as rt fmt lays it out: as many numbers in a line as fit."""
-    body = textwrap.fill(" ".join(f"0x{n:X}," for n in numbers), WIDTH, initial_indent="    ", subsequent_indent="    ")
-    return f"pub(crate) const {name}: [u32; {len(numbers)}] = [\n{body}\n];\n"
+def array(name, found):
+    """A static array with as many pairs in a line as fit, where rt fmt would give each a line."""
+    pairs = " ".join(f"(0x{first:X},~0x{last:X})," for first, last in found)
+    body = textwrap.fill(pairs, WIDTH, initial_indent="    ", subsequent_indent="    ").replace("~", " ")
+    return f"#[rattlefmt::skip]\npub(crate) static {name}: [(u32, u32); {len(found)}] = [\n{body}\n];\n"
 
 
 def tables(made, lists):
-    arrays = [array(f"{name}_{end}", [r[k] for r in found]) for name, found in lists for k, end in enumerate(("FIRSTS", "LASTS"))]
     return (
-        "//! The first and the last code point of each range of XID_Start, and of XID_Continue.\n"
-        f"//! {made}\n" + "\n".join(arrays)
+        "//! The ranges of XID_Start and of XID_Continue: the first and the last code point of each.\n"
+        f"//! {made}\n" + "\n".join(array(name, found) for name, found in lists)
     )
 
 
@@ -130,7 +130,7 @@ def written(arguments):
     names = [pathlib.Path(path).name for path in (arguments.properties, arguments.age)]
     made = f"Unicode {arguments.version}, written by `tools/unicode/ranges.py {names[0]} {names[1]} {arguments.version}`; not to be changed by hand."
     return {
-        "src/tables.rt": tables(made, [("START", starts), ("CONTINUE", continues)]),
+        "src/tables.rt": tables(made, [("STARTS", starts), ("CONTINUES", continues)]),
         "specs/XidStart.antt": definition(made, "XID_Start", "xid_starts", starts),
         "specs/XidContinue.antt": definition(made, "XID_Continue", "xid_continues", continues),
         "proofs/Counts.antt": counts(made, starts, continues),

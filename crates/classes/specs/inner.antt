@@ -1,3 +1,2 @@
 -- What no host's contract needs.
-pub mod Search
 pub mod Runs

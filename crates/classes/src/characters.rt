@@ -1,93 +1,65 @@
 //! The classes of one character. Up to U+02C1 a short rule answers; above, a search of the tables.
-//! A table is stored where it is lent, at each call, so that is done in a function that short characters never reach.
 ghost use Rattle.std.specs.Prelude.{◌≡◌};
 ghost use Rattle.classes.specs.Classes.{xid_start, xid_continue, keylike_start, keylike_continue, short_start, short_continue};
 
 use crate::ranges::in_ranges;
-use crate::tables::{CONTINUE_FIRSTS, CONTINUE_LASTS, START_FIRSTS, START_LASTS};
+use crate::tables::{CONTINUES, STARTS};
 
 // XID_Start up to U+02C1.
+#[tactic(auto, unfolding(crate::specs::Classes::short_start, crate::specs::Classes::short_starts, terms::specs::Terms::said, terms::specs::Terms::within))]
 fn short_start(c: u32) -> bool
     ensures { result ≡ short_start c }
 {
-    match c {
-        0x41..=0x5A | 0x61..=0x7A => true,
-        0xAA | 0xB5 | 0xBA => true,
-        0xC0..=0xD6 | 0xD8..=0xF6 | 0xF8..=0x2C1 => true,
-        _ => false,
-    }
+    matches!(
+        c,
+        0x41..=0x5A | 0x61..=0x7A | 0xAA | 0xB5 | 0xBA | 0xC0..=0xD6 | 0xD8..=0xF6 | 0xF8..=0x2C1
+    )
 }
 
 // XID_Continue up to U+02C1.
-#[tactic(auto, unfolding(crate::specs::Classes::short_continue))]
-pub(crate) fn short_continue(c: u32) -> bool
+#[tactic(auto, unfolding(crate::specs::Classes::short_continue, terms::specs::Terms::within))]
+fn short_continue(c: u32) -> bool
     ensures { result ≡ short_continue c }
 {
-    if terms::within(0x30, 0x39, c) {
-        return true;
-    }
-    if c == 0x5F {
-        return true;
-    }
-    if c == 0xB7 {
-        return true;
-    }
-    short_start(c)
-}
-
-// XID_Start by its table, which is stored here.
-fn searched_start(c: u32) -> bool
-    ensures { result ≡ xid_start c }
-{
-    in_ranges(&START_FIRSTS, &START_LASTS, c)
-}
-
-// XID_Continue by its table, which is stored here.
-fn searched_continue(c: u32) -> bool
-    ensures { result ≡ xid_continue c }
-{
-    in_ranges(&CONTINUE_FIRSTS, &CONTINUE_LASTS, c)
+    matches!(c, 0x30..=0x39 | 0x5F | 0xB7) || short_start(c)
 }
 
 // Unicode's property XID_Start.
+#[tactic(auto, using(crate::proofs::ShortLaws::start_short))]
 pub fn xid_start(c: u32) -> bool
     ensures { result ≡ xid_start c }
 {
     if c <= 0x2C1 {
-        return short_start(c);
+        short_start(c)
+    } else {
+        in_ranges(&STARTS, c)
     }
-    searched_start(c)
 }
 
-// Unicode's property XID_Continue.
+// Unicode's property XID_Continue. One function for both would take the short rule and the table of each: no plainer.
+#[tactic(auto, using(crate::proofs::ShortLaws::continue_short))]
 pub fn xid_continue(c: u32) -> bool
     ensures { result ≡ xid_continue c }
 {
     if c <= 0x2C1 {
-        return short_continue(c);
+        short_continue(c)
+    } else {
+        in_ranges(&CONTINUES, c)
     }
-    searched_continue(c)
 }
 
 // XID_Start, `_` or `-`.
+#[tactic(auto, unfolding(crate::specs::Classes::keylike_start))]
 pub fn is_keylike_start(c: u32) -> bool
     ensures { result ≡ keylike_start c }
 {
-    if c == 0x5F {
-        return true;
-    }
-    if c == 0x2D {
-        return true;
-    }
-    xid_start(c)
+    matches!(c, 0x5F | 0x2D) || xid_start(c)
 }
 
 // XID_Continue or `-`.
+#[tactic(auto, unfolding(crate::specs::Classes::keylike_continue))]
 pub fn is_keylike_continue(c: u32) -> bool
     ensures { result ≡ keylike_continue c }
 {
-    if c == 0x2D {
-        return true;
-    }
-    xid_continue(c)
+    c == 0x2D || xid_continue(c)
 }
