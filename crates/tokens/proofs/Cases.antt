@@ -15,9 +15,8 @@ use Rattle.strings.specs.Strings.{plain_turn, turn_of, added, gather_on, gather,
 use Rattle.kinds.specs.declared.Token.{Token}
 use Rattle.kinds.specs.Keywords.{keywords, key_in, keyword}
 use Rattle.runs.specs.Comments.{blank, digit, run, line_comment, seen, block_turn, block_on, block_comment}
-use Rattle.tokens.specs.declared.Raw.{Raw}
-use Rattle.tokens.specs.declared.Raw.TheVariants.{Token as Found, Refused}
-use Rattle.tokens.specs.Tokens.{rules, rule_of, as_token, slash_rule, dash_rule, percent_rule, as_word, as_string, lexed_by, spanned, raw_of, raw_at}
+use Rattle.std.specs.Prelude.{Some, Ok, Err}
+use Rattle.tokens.specs.Tokens.{Raw, rules, rule_of, as_token, slash_rule, dash_rule, percent_rule, as_word, as_string, lexed_by, spanned, raw_of, raw_at}
 
 -- The raw token at a place of a text that stands at this offset.
 unfoldable pub at : List ℕ → ℕ → ℕ → Raw
@@ -31,7 +30,8 @@ at s o p = raw_at s o (place p)
 
 -- A token of this kind from one position to another, with the place behind it.
 abbrev pub token : Token → ℕ → ℕ → ℕ → Raw
-token kind from last n = Found kind (record { start = record { 0 = from }; end = record { 0 = last } }) (place n)
+token kind from last n =
+    Ok (Some (record { kind = kind; span = record { start = record { 0 = from }; end = record { 0 = last } }; next = place n }))
 
 -- P2: `a->b` at offset 10 is `a-`,
 pub p2_first : at (ascii "a->b") 10 0 ≡ token Token.Id 10 12 2
@@ -49,7 +49,7 @@ unfolding at
 p2_third = refl
 
 -- P3: `/*/` is 8 at 0.
-pub p3 : at (ascii "/*/") 0 0 ≡ Refused (UnterminatedComment (record { 0 = 0 }))
+pub p3 : at (ascii "/*/") 0 0 ≡ Err (UnterminatedComment (record { 0 = 0 }))
 unfolding at
 p3 = refl
 
@@ -69,7 +69,7 @@ unfolding at
 p4_third = refl
 
 -- P11: a lone CR is 7 at 0.
-pub p11 : at (ascii "\r") 0 0 ≡ Refused (Unexpected (record { 0 = 0 }) 13)
+pub p11 : at (ascii "\r") 0 0 ≡ Err (Unexpected (record { 0 = 0 }) 13)
 unfolding at
 p11 = refl
 
@@ -89,7 +89,7 @@ unfolding at
 greek_behind_percent = refl
 
 -- CC 81: a combining mark begins no word, so it is 7,
-pub mark_first : at (0xCC ∷ 0x81 ∷ []) 5 0 ≡ Refused (Unexpected (record { 0 = 5 }) 0x301)
+pub mark_first : at (0xCC ∷ 0x81 ∷ []) 5 0 ≡ Err (Unexpected (record { 0 = 5 }) 0x301)
 unfolding at
 mark_first = refl
 
@@ -99,7 +99,7 @@ unfolding at
 mark_in_word = refl
 
 -- CB 82: U+02C2, the first character above the short rule, is 7,
-pub above_first : at (0xCB ∷ 0x82 ∷ []) 5 0 ≡ Refused (Unexpected (record { 0 = 5 }) 0x2C2)
+pub above_first : at (0xCB ∷ 0x82 ∷ []) 5 0 ≡ Err (Unexpected (record { 0 = 5 }) 0x2C2)
 unfolding at
 above_first = refl
 
@@ -114,12 +114,12 @@ unfolding at
 greek_behind_digit = refl
 
 -- EF BB BF: a token over a byte order mark is 7.
-pub mark : at (0xEF ∷ 0xBB ∷ 0xBF ∷ []) 0 0 ≡ Refused (Unexpected (record { 0 = 0 }) 0xFEFF)
+pub mark : at (0xEF ∷ 0xBB ∷ 0xBF ∷ []) 0 0 ≡ Err (Unexpected (record { 0 = 0 }) 0xFEFF)
 unfolding at
 mark = refl
 
 -- 00 is 7: a token is not screened,
-pub control : at (0 ∷ []) 0 0 ≡ Refused (Unexpected (record { 0 = 0 }) 0)
+pub control : at (0 ∷ []) 0 0 ≡ Err (Unexpected (record { 0 = 0 }) 0)
 unfolding at
 control = refl
 
@@ -129,12 +129,12 @@ unfolding at
 deprecated = refl
 
 -- C3 A9 from place 1 on: inside a character it is 3.
-pub inside_character : at (0xC3 ∷ 0xA9 ∷ []) 5 1 ≡ Refused (IllFormed (record { at = place 1 }))
+pub inside_character : at (0xC3 ∷ 0xA9 ∷ []) 5 1 ≡ Err (IllFormed (record { at = place 1 }))
 unfolding at
 inside_character = refl
 
 -- CR FF: a CR before an ill-formed byte is a lone CR, 7,
-pub cr_before_ill : at (13 ∷ 255 ∷ []) 0 0 ≡ Refused (Unexpected (record { 0 = 0 }) 13)
+pub cr_before_ill : at (13 ∷ 255 ∷ []) 0 0 ≡ Err (Unexpected (record { 0 = 0 }) 13)
 unfolding at
 cr_before_ill = refl
 
@@ -144,33 +144,33 @@ unfolding at
 cr_ends_run = refl
 
 -- " CR FF: or it is 10 in a string.
-pub cr_in_string : at (0x22 ∷ 13 ∷ 255 ∷ []) 0 0 ≡ Refused (InvalidStringElement (place 1) 13)
+pub cr_in_string : at (0x22 ∷ 13 ∷ 255 ∷ []) 0 0 ≡ Err (InvalidStringElement (place 1) 13)
 unfolding at
 cr_in_string = refl
 
 -- - FF, / FF and % FF: the next character is examined.
-pub ill_behind_dash : at (0x2D ∷ 255 ∷ []) 5 0 ≡ Refused (IllFormed (record { at = place 1 }))
+pub ill_behind_dash : at (0x2D ∷ 255 ∷ []) 5 0 ≡ Err (IllFormed (record { at = place 1 }))
 unfolding at
 ill_behind_dash = refl
 
-pub ill_behind_slash : at (0x2F ∷ 255 ∷ []) 5 0 ≡ Refused (IllFormed (record { at = place 1 }))
+pub ill_behind_slash : at (0x2F ∷ 255 ∷ []) 5 0 ≡ Err (IllFormed (record { at = place 1 }))
 unfolding at
 ill_behind_slash = refl
 
-pub ill_behind_percent : at (0x25 ∷ 255 ∷ []) 5 0 ≡ Refused (IllFormed (record { at = place 1 }))
+pub ill_behind_percent : at (0x25 ∷ 255 ∷ []) 5 0 ≡ Err (IllFormed (record { at = place 1 }))
 unfolding at
 ill_behind_percent = refl
 
 -- a FF, 1 FF and 20 FF: so is the one that ends a run.
-pub ill_behind_word : at (0x61 ∷ 255 ∷ []) 5 0 ≡ Refused (IllFormed (record { at = place 1 }))
+pub ill_behind_word : at (0x61 ∷ 255 ∷ []) 5 0 ≡ Err (IllFormed (record { at = place 1 }))
 unfolding at
 ill_behind_word = refl
 
-pub ill_behind_digit : at (0x31 ∷ 255 ∷ []) 5 0 ≡ Refused (IllFormed (record { at = place 1 }))
+pub ill_behind_digit : at (0x31 ∷ 255 ∷ []) 5 0 ≡ Err (IllFormed (record { at = place 1 }))
 unfolding at
 ill_behind_digit = refl
 
-pub ill_behind_blank : at (0x20 ∷ 255 ∷ []) 5 0 ≡ Refused (IllFormed (record { at = place 1 }))
+pub ill_behind_blank : at (0x20 ∷ 255 ∷ []) 5 0 ≡ Err (IllFormed (record { at = place 1 }))
 unfolding at
 ill_behind_blank = refl
 

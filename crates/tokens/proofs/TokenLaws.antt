@@ -13,35 +13,30 @@ use Rattle.answers.specs.declared.Span.{Span}
 use Rattle.answers.specs.declared.Refusal.{Refusal}
 use Rattle.answers.specs.Places.{in_map}
 use Rattle.answers.specs.Caps.{cap}
-use Rattle.chars.specs.declared.Read.{Read}
-use Rattle.chars.specs.declared.Read.TheVariants.{End as Ended, Ill, Char}
+use Rattle.chars.specs.Utf8.{Read}
+use Rattle.std.specs.Prelude.{None, Some, Result, Ok, Err}
 use Rattle.chars.specs.View.{Chars, end, ill, char, place_of, folded_at, folded_from}
 use Rattle.classes.specs.Classes.{keylike_start, keylike_continue}
 use Rattle.chars.proofs.ViewLaws.{folded_end, folded_ill, folded_char, folded_place, folded_onward, folded_end_at}
 use Rattle.chars.proofs.LocalLaws.{Alike, view_alike}
 use Rattle.strings.specs.declared.Literal.{Literal}
-use Rattle.strings.specs.declared.Literal.TheVariants.{Closed, Refused as Refused'}
 use Rattle.strings.specs.Strings.{string_literal}
 use Rattle.strings.proofs.StringLaws.{closing}
 use Rattle.strings.proofs.LocalLaws.{literal_alike}
 use Rattle.kinds.specs.declared.Token.{Token}
 use Rattle.runs.specs.declared.Block.{Block}
-use Rattle.runs.specs.declared.Ran.{Ran}
-use Rattle.runs.specs.declared.Ran.TheVariants.{To, Stopped}
-use Rattle.runs.specs.Comments.{blank, digit, run, line_comment, block_comment}
+use Rattle.runs.specs.Comments.{Ran, blank, digit, run, line_comment, block_comment}
 use Rattle.runs.proofs.RunLaws.{run_to}
 use Rattle.runs.proofs.CommentLaws.{line_to, block_to}
-use Rattle.tokens.specs.declared.Lexed.{Lexed}
-use Rattle.tokens.specs.declared.Lexed.TheVariants.{As, Not}
+use Rattle.tokens.specs.declared.Lexeme.{Lexeme}
 use Rattle.tokens.specs.declared.Rule.{Rule}
 use Rattle.tokens.specs.declared.Rule.TheVariants.{Blanks, Slash, Dash, Percent, Quote, Digits, Word, Mark, Classed}
-use Rattle.tokens.specs.declared.Raw.TheVariants.{Token as Found, End, Refused}
-use Rattle.tokens.specs.Tokens.{rule_of, as_token, slash_rule, dash_rule, percent_rule, as_word, as_string, lexed_by, spanned, raw_of, raw_at}
+use Rattle.tokens.specs.Tokens.{Raw, Lexed, rule_of, as_token, slash_rule, dash_rule, percent_rule, as_word, as_string, lexed_by, spanned, raw_of, raw_at}
 
-as_is : {j k : Token} {m n : Place} → As j m ≡ As k n → m ≡ n
-as_is e = cc
+as_is : {j k : Token} {m n : Place} → ◌≡◌ {A = Lexed} (Ok (j, m)) (Ok (k, n)) → m ≡ n
+as_is {j} {k} {m} {n} e = let z : ◌≡◌ {A = Token × Place} (j, m) (k, n) = cc in ap (λ (x : Token × Place). x.1) z
 
-not_as : {f : Refusal} {k : Token} {n : Place} → Not f ≡ As k n → ⊥
+not_as : {f : Refusal} {k : Token} {n : Place} → ◌≡◌ {A = Lexed} (Err f) (Ok (k, n)) → ⊥
 not_as e = let z : ◌≡◌ {A = ℕ} 0 1 = cc in omega arith
 
 -- where a rule ends that goes on from m: not before m, and within the text
@@ -49,86 +44,86 @@ abbrev Ends : List ℕ → Place → Place → Type 0
 Ends s m n = (m.0 ≤ n.0) × (n.0 ≤ length s)
 
 module _ (s : List ℕ) (o : ℕ) (p m : Place) (l : m.0 ≤ length s) (k : Token) (n : Place) where
-  here : (j : Token) (q : Place) → q ≡ m → As j q ≡ As k n → Ends s m n
+  here : (j : Token) (q : Place) → q ≡ m → ◌≡◌ {A = Lexed} (Ok (j, q)) (Ok (k, n)) → Ends s m n
   here j q h e = let a : m.0 ≡ n.0 = ap (λ (x : Place). x.0) (sym h ∙ as_is e) in omega arith
 
-  token_to : (j : Token) (r : Ran) → ((i : Place) → r ≡ To i → Ends s m i) → as_token j r ≡ As k n → Ends s m n
+  token_to : (j : Token) (r : Ran) → ((i : Place) → r ≡ Ok i → Ends s m i) → as_token j r ≡ Ok (k, n) → Ends s m n
   unfolding as_token
-  token_to j (To i) h e = rw (← as_is e) (h i refl)
-  token_to j (Stopped f) h e = absurd (not_as e)
+  token_to j (Ok i) h e = rw (← as_is e) (h i refl)
+  token_to j (Err f) h e = absurd (not_as e)
 
-  word_to : (r : Ran) → ((i : Place) → r ≡ To i → Ends s m i) → as_word s p r ≡ As k n → Ends s m n
+  word_to : (r : Ran) → ((i : Place) → r ≡ Ok i → Ends s m i) → as_word s p r ≡ Ok (k, n) → Ends s m n
   unfolding as_word
-  word_to (To i) h e = rw (← as_is e) (h i refl)
-  word_to (Stopped f) h e = absurd (not_as e)
+  word_to (Ok i) h e = rw (← as_is e) (h i refl)
+  word_to (Err f) h e = absurd (not_as e)
 
-  string_to : as_string (string_literal s o (in_map o p) m) ≡ As k n → Ends s m n
+  string_to : as_string (string_literal s o (in_map o p) m) ≡ Ok (k, n) → Ends s m n
   unfolding as_string
   string_to e = go (string_literal s o (in_map o p) m) refl e
     where
-      go : (r : Literal) → string_literal s o (in_map o p) m ≡ r → as_string r ≡ As k n → Ends s m n
-      go (Closed i count) h e =
-          let r = closing s o (in_map o p) m i count h in
-          let a : i.0 ≡ n.0 = ap (λ (x : Place). x.0) (as_is e) in (omega (arith, r.beyond), omega (arith, r.inside))
-      go (Refused' f) h e = absurd (not_as e)
+      go : (r : Result Literal Refusal) → string_literal s o (in_map o p) m ≡ r → as_string r ≡ Ok (k, n) → Ends s m n
+      go (Ok l) h e =
+          let r = closing s o (in_map o p) m l h in
+          let a : l.end.0 ≡ n.0 = ap (λ (x : Place). x.0) (as_is e) in (omega (arith, r.beyond), omega (arith, r.inside))
+      go (Err f) h e = absurd (not_as e)
 
   -- a run or a comment behind the next character
-  behind : (c : ℕ) (i : Place) → folded_at s m ≡ Char c i → (j : Token) (r : Ran)
-      → (i.0 ≤ length s → (x : Place) → r ≡ To x → Ends s i x) → as_token j r ≡ As k n → Ends s m n
+  behind : (c : ℕ) (i : Place) → folded_at s m ≡ Ok (Some (c, i)) → (j : Token) (r : Ran)
+      → (i.0 ≤ length s → (x : Place) → r ≡ Ok x → Ends s i x) → as_token j r ≡ Ok (k, n) → Ends s m n
   behind c i h j r to_end =
       let g = folded_onward s m c i h in
       token_to j r (λ x q. omega (arith, g.beyond, to_end g.inside x q))
 
   -- a rule that looks at the next character: it ends before it, where there is none, and is refused where it is ill-formed
-  looks : (f : Chars → Lexed) (j : Token) → f (end m) ≡ As j m → ((i : Sequence) → f (ill i) ≡ Not (Refusal.IllFormed i))
-      → ((c : ℕ) (i : Place) → folded_at s m ≡ Char c i → f (char m c (folded_from s i)) ≡ As k n → Ends s m n)
-      → f (folded_from s m) ≡ As k n → Ends s m n
+  looks : (f : Chars → Lexed) (j : Token) → f (end m) ≡ Ok (j, m) → ((i : Sequence) → f (ill i) ≡ Err (Refusal.IllFormed i))
+      → ((c : ℕ) (i : Place) → folded_at s m ≡ Ok (Some (c, i)) → f (char m c (folded_from s i)) ≡ Ok (k, n) → Ends s m n)
+      → f (folded_from s m) ≡ Ok (k, n) → Ends s m n
   looks f j at-end at-ill at-char e = go (folded_at s m) refl
     where
       go : (r : Read) → folded_at s m ≡ r → Ends s m n
-      go Ended h = here j m refl (sym at-end ∙ ap f (sym (folded_end s m h)) ∙ e)
-      go (Ill i) h = absurd (not_as (sym (at-ill i) ∙ ap f (sym (folded_ill s m i h)) ∙ e))
-      go (Char c i) h = at-char c i h (ap f (sym (folded_char s m c i h)) ∙ e)
+      go (Ok None) h = here j m refl (sym at-end ∙ ap f (sym (folded_end s m h)) ∙ e)
+      go (Err i) h = absurd (not_as (sym (at-ill i) ∙ ap f (sym (folded_ill s m i h)) ∙ e))
+      go (Ok (Some (c, i))) h = at-char c i h (ap f (sym (folded_char s m c i h)) ∙ e)
 
-  slash_to : slash_rule o p (folded_from s m) ≡ As k n → Ends s m n
+  slash_to : slash_rule o p (folded_from s m) ≡ Ok (k, n) → Ends s m n
   unfolding slash_rule
   slash_to = looks (slash_rule o p) Token.Slash refl (λ i. refl) (λ c i h. by c i h (eqb c 47) (eqb c 42))
     where
-      by : (c : ℕ) (i : Place) → folded_at s m ≡ Char c i → (t u : Bool)
+      by : (c : ℕ) (i : Place) → folded_at s m ≡ Ok (Some (c, i)) → (t u : Bool)
           → (if t then as_token Token.Comment (line_comment (folded_from s i))
           else (if u then as_token Token.Comment (block_comment (in_map o p) (Block.Other 1) (folded_from s i))
-          else As Token.Slash m)) ≡ As k n → Ends s m n
+          else Ok (Token.Slash, m))) ≡ Ok (k, n) → Ends s m n
       by c i h true u e = behind c i h Token.Comment _ (line_to s i) e
       by c i h false true e = behind c i h Token.Comment _ (block_to (in_map o p) (Block.Other 1) s i) e
       by c i h false false e = here Token.Slash m refl e
 
-  dash_to : dash_rule (folded_from s m) ≡ As k n → Ends s m n
+  dash_to : dash_rule (folded_from s m) ≡ Ok (k, n) → Ends s m n
   unfolding dash_rule
   dash_to = looks dash_rule Token.Minus refl (λ i. refl) (λ c i h. by c i h (eqb c 62))
     where
-      by : (c : ℕ) (i : Place) → folded_at s m ≡ Char c i → (t : Bool)
-          → (if t then As Token.RArrow (place_of (folded_from s i)) else As Token.Minus m) ≡ As k n → Ends s m n
+      by : (c : ℕ) (i : Place) → folded_at s m ≡ Ok (Some (c, i)) → (t : Bool)
+          → if◌then◌else◌ {A = Lexed} t (Ok (Token.RArrow, place_of (folded_from s i))) (Ok (Token.Minus, m)) ≡ Ok (k, n) → Ends s m n
       by c i h true e =
           let g = folded_onward s m c i h in
           let a : i.0 ≡ n.0 = ap (λ (x : Place). x.0) (sym (folded_place s i) ∙ as_is e) in (omega (arith, g.beyond), omega (arith, g.inside))
       by c i h false e = here Token.Minus m refl e
 
-  percent_to : percent_rule (folded_from s m) ≡ As k n → Ends s m n
+  percent_to : percent_rule (folded_from s m) ≡ Ok (k, n) → Ends s m n
   unfolding percent_rule
   percent_to = looks percent_rule Token.ExplicitId refl (λ i. refl) (λ c i h. by c i h (keylike_start c))
     where
-      by : (c : ℕ) (i : Place) → folded_at s m ≡ Char c i → (t : Bool)
-          → (if t then as_token Token.ExplicitId (run keylike_continue (folded_from s i)) else As Token.ExplicitId m) ≡ As k n → Ends s m n
+      by : (c : ℕ) (i : Place) → folded_at s m ≡ Ok (Some (c, i)) → (t : Bool)
+          → (if t then as_token Token.ExplicitId (run keylike_continue (folded_from s i)) else Ok (Token.ExplicitId, m)) ≡ Ok (k, n) → Ends s m n
       by c i h true e = behind c i h Token.ExplicitId _ (run_to keylike_continue s i) e
       by c i h false e = here Token.ExplicitId m refl e
 
-  run_ends : (j : Token) (class : ℕ → Bool) → as_token j (run class (folded_from s m)) ≡ As k n → Ends s m n
+  run_ends : (j : Token) (class : ℕ → Bool) → as_token j (run class (folded_from s m)) ≡ Ok (k, n) → Ends s m n
   run_ends j class = token_to j (run class (folded_from s m)) (run_to class s m l)
 
-  word_ends : as_word s p (run keylike_continue (folded_from s m)) ≡ As k n → Ends s m n
+  word_ends : as_word s p (run keylike_continue (folded_from s m)) ≡ Ok (k, n) → Ends s m n
   word_ends = word_to (run keylike_continue (folded_from s m)) (run_to keylike_continue s m l)
 
-  rule_to : (rule : Rule) (c : ℕ) → lexed_by rule s o p c (folded_from s m) ≡ As k n → Ends s m n
+  rule_to : (rule : Rule) (c : ℕ) → lexed_by rule s o p c (folded_from s m) ≡ Ok (k, n) → Ends s m n
   unfolding lexed_by
   rule_to Blanks c e = run_ends Token.Whitespace blank e
   rule_to Slash c e = slash_to e
@@ -141,7 +136,7 @@ module _ (s : List ℕ) (o : ℕ) (p m : Place) (l : m.0 ≤ length s) (k : Toke
   rule_to Classed c e = go (keylike_start c) e
     where
       go : (t : Bool)
-          → (if t then as_word s p (run keylike_continue (folded_from s m)) else Not (Refusal.Unexpected (in_map o p) c)) ≡ As k n → Ends s m n
+          → (if t then as_word s p (run keylike_continue (folded_from s m)) else Err (Refusal.Unexpected (in_map o p) c)) ≡ Ok (k, n) → Ends s m n
       go true e = word_ends e
       go false e = absurd (not_as e)
 
@@ -152,52 +147,58 @@ pub record Goes (s : List ℕ) (o : ℕ) (p : Place) (span : Span) (n : Place) :
   pub inside : n.0 ≤ length s
   pub capped : p.0 < cap
 
-found_is : {j k : Token} {a b : Span} {m n : Place} → Found j a m ≡ Found k b n → (j ≡ k) × (a ≡ b) × (m ≡ n)
-found_is e = (cc, cc, cc)
+-- a token with its span, as a raw step
+abbrev pub found : Token → Span → Place → Raw
+found kind span n = Ok (Some (record { kind = kind; span = span; next = n }))
 
-end_not : {k : Token} {a : Span} {n : Place} → End ≡ Found k a n → ⊥
+found_is : {j k : Token} {a b : Span} {m n : Place} → found j a m ≡ found k b n → (a ≡ b) × (m ≡ n)
+found_is {j} {k} {a} {b} {m} {n} e =
+    let z : ◌≡◌ {A = Lexeme} (record { kind = j; span = a; next = m }) (record { kind = k; span = b; next = n }) = cc in
+    (ap (λ (t : Lexeme). t.span) z, ap (λ (t : Lexeme). t.next) z)
+
+end_not : {k : Token} {a : Span} {n : Place} → Ok None ≡ found k a n → ⊥
 end_not e = let z : ◌≡◌ {A = ℕ} 0 1 = cc in omega arith
 
-refused_not : {f : Refusal} {k : Token} {a : Span} {n : Place} → Refused f ≡ Found k a n → ⊥
+refused_not : {f : Refusal} {k : Token} {a : Span} {n : Place} → Err f ≡ found k a n → ⊥
 refused_not e = let z : ◌≡◌ {A = ℕ} 0 1 = cc in omega arith
 
 module _ (s : List ℕ) (o : ℕ) (p : Place) where
-  pub raw_goes : (kind : Token) (span : Span) (n : Place) → raw_at s o p ≡ Found kind span n → Goes s o p span n
+  pub raw_goes : (kind : Token) (span : Span) (n : Place) → raw_at s o p ≡ found kind span n → Goes s o p span n
   unfolding raw_at raw_of spanned
   raw_goes kind span n e = go (folded_at s p) refl
     where
-      by : (c : ℕ) (m : Place) → folded_at s p ≡ Char c m → (x : Lexed) → lexed_by (rule_of c) s o p c (folded_from s m) ≡ x
-          → spanned o p x ≡ Found kind span n → Goes s o p span n
-      by c m h (As j i) q e =
+      by : (c : ℕ) (m : Place) → folded_at s p ≡ Ok (Some (c, m)) → (x : Lexed) → lexed_by (rule_of c) s o p c (folded_from s m) ≡ x
+          → spanned o p x ≡ found kind span n → Goes s o p span n
+      by c m h (Ok (j, i)) q e =
           let g = folded_onward s p c m h in
           let f = found_is e in
           let t = rule_to s o p m g.inside j i (rule_of c) c q in
-          let a : i.0 ≡ n.0 = ap (λ (x : Place). x.0) f.2 in
+          let a : i.0 ≡ n.0 = ap (λ (x : Place). x.0) f.1 in
           record {
-            spans = rw (← f.2) (sym f.1);
+            spans = rw (← f.1) (sym f.0);
             beyond = omega (arith, g.beyond, t);
             inside = omega (arith, t);
             capped = g.capped;
           }
-      by c m h (Not f) q e = absurd (refused_not e)
+      by c m h (Err f) q e = absurd (refused_not e)
 
       go : (r : Read) → folded_at s p ≡ r → Goes s o p span n
-      go Ended h = absurd (end_not (ap (raw_of s o) (sym (folded_end s p h)) ∙ e))
-      go (Ill i) h = absurd (refused_not (ap (raw_of s o) (sym (folded_ill s p i h)) ∙ e))
-      go (Char c m) h = by c m h (lexed_by (rule_of c) s o p c (folded_from s m)) refl (ap (raw_of s o) (sym (folded_char s p c m h)) ∙ e)
+      go (Ok None) h = absurd (end_not (ap (raw_of s o) (sym (folded_end s p h)) ∙ e))
+      go (Err i) h = absurd (refused_not (ap (raw_of s o) (sym (folded_ill s p i h)) ∙ e))
+      go (Ok (Some (c, m))) h = by c m h (lexed_by (rule_of c) s o p c (folded_from s m)) refl (ap (raw_of s o) (sym (folded_char s p c m h)) ∙ e)
 
-  pub raw_end_at : length s ≤ cap → raw_at s o p ≡ End → length s ≤ p.0
+  pub raw_end_at : length s ≤ cap → raw_at s o p ≡ Ok None → length s ≤ p.0
   unfolding raw_at raw_of spanned
   raw_end_at k e = go (folded_at s p) refl
     where
-      by : (p : Place) (x : Lexed) → spanned o p x ≡ End → ⊥
-      by p (As j i) e = end_not (sym e)
-      by p (Not f) e = let z : ◌≡◌ {A = ℕ} 0 1 = cc in omega arith
+      by : (p : Place) (x : Lexed) → spanned o p x ≡ Ok None → ⊥
+      by p (Ok (j, i)) e = end_not (sym e)
+      by p (Err f) e = let z : ◌≡◌ {A = ℕ} 0 1 = cc in omega arith
 
       go : (r : Read) → folded_at s p ≡ r → length s ≤ p.0
-      go Ended h = folded_end_at s p k h
-      go (Ill i) h = absurd (by p (Not (Refusal.IllFormed i)) (ap (raw_of s o) (sym (folded_ill s p i h)) ∙ e))
-      go (Char c m) h = absurd (by p (lexed_by (rule_of c) s o p c (folded_from s m)) (ap (raw_of s o) (sym (folded_char s p c m h)) ∙ e))
+      go (Ok None) h = folded_end_at s p k h
+      go (Err i) h = absurd (by p (Err (Refusal.IllFormed i)) (ap (raw_of s o) (sym (folded_ill s p i h)) ∙ e))
+      go (Ok (Some (c, m))) h = absurd (by p (lexed_by (rule_of c) s o p c (folded_from s m)) (ap (raw_of s o) (sym (folded_char s p c m h)) ∙ e))
 
 -- a token depends only on the text from its place on
 pub raw_alike : (s t : List ℕ) (o : ℕ) (p : Place) → Alike p s t → raw_at s o p ≡ raw_at t o p
@@ -205,10 +206,11 @@ unfolding raw_at raw_of as_word lexed_by
 raw_alike s t o p a = rw (← view_alike p s t a p (omega arith)) (go (folded_at s p) refl)
   where
     word : (r : Ran) → as_word s p r ≡ as_word t p r
-    word (To n) = rw a.rest
-    word (Stopped f) = refl
+    word (Ok n) = rw a.rest
+    word (Err f) = refl
 
-    by : (c : ℕ) (m : Place) → folded_at s p ≡ Char c m → (rule : Rule) → lexed_by rule s o p c (folded_from s m) ≡ lexed_by rule t o p c (folded_from s m)
+    by : (c : ℕ) (m : Place) → folded_at s p ≡ Ok (Some (c, m))
+        → (rule : Rule) → lexed_by rule s o p c (folded_from s m) ≡ lexed_by rule t o p c (folded_from s m)
     by c m h Blanks = refl
     by c m h Slash = refl
     by c m h Dash = refl
@@ -221,6 +223,6 @@ raw_alike s t o p a = rw (← view_alike p s t a p (omega arith)) (go (folded_at
     by c m h Classed = rw (word (run keylike_continue (folded_from s m)))
 
     go : (r : Read) → folded_at s p ≡ r → raw_of s o (folded_from s p) ≡ raw_of t o (folded_from s p)
-    go Ended h = rw (folded_end s p h)
-    go (Ill i) h = rw (folded_ill s p i h)
-    go (Char c m) h = rw (folded_char s p c m h) (ap (spanned o p) (by c m h (rule_of c)))
+    go (Ok None) h = rw (folded_end s p h)
+    go (Err i) h = rw (folded_ill s p i h)
+    go (Ok (Some (c, m))) h = rw (folded_char s p c m h) (ap (spanned o p) (by c m h (rule_of c)))

@@ -1,26 +1,29 @@
 -- 01, "Tokens": one raw token. The first character calls for a rule; the rule says where the token ends, and of what kind it is.
-use Rattle.std.specs.Prelude.{ℕ, ◌-◌, List, [], ◌∷◌, take, drop, eqb, if◌then◌else◌}
+use Rattle.std.specs.Prelude.{ℕ, ◌-◌, List, [], ◌∷◌, take, drop, eqb, Option, None, Some, Result, Ok, Err, if◌then◌else◌}
 use Rattle.terms.specs.Terms.{Row, ◌to◌is◌, said}
 use Rattle.answers.specs.declared.Place.{Place}
+use Rattle.answers.specs.declared.Refusal.{Refusal}
 use Rattle.answers.specs.declared.Refusal.TheVariants.{IllFormed, Unexpected}
 use Rattle.answers.specs.Places.{in_map}
 use Rattle.chars.specs.View.{Chars, end, ill, char, place_of, folded_from}
 use Rattle.classes.specs.Classes.{keylike_start, keylike_continue}
 use Rattle.strings.specs.declared.Literal.{Literal}
-use Rattle.strings.specs.declared.Literal.TheVariants.{Closed, Refused as Refused'}
 use Rattle.strings.specs.Strings.{string_literal}
 use Rattle.kinds.specs.declared.Token.{Token}
 use Rattle.kinds.specs.Keywords.{keyword}
 use Rattle.runs.specs.declared.Block.{Block}
-use Rattle.runs.specs.declared.Ran.{Ran}
-use Rattle.runs.specs.declared.Ran.TheVariants.{To, Stopped}
-use Rattle.runs.specs.Comments.{blank, digit, run, line_comment, block_comment}
-use Rattle.tokens.specs.declared.Lexed.{Lexed}
-use Rattle.tokens.specs.declared.Lexed.TheVariants.{As, Not}
+use Rattle.runs.specs.Comments.{Ran, blank, digit, run, line_comment, block_comment}
+use Rattle.tokens.specs.declared.Lexeme.{Lexeme}
 use Rattle.tokens.specs.declared.Rule.{Rule}
 use Rattle.tokens.specs.declared.Rule.TheVariants.{Blanks, Slash, Dash, Percent, Quote, Digits, Word, Mark, Classed}
-use Rattle.tokens.specs.declared.Raw.{Raw}
-use Rattle.tokens.specs.declared.Raw.TheVariants.{Token as Found, End, Refused}
+
+-- What a raw step answers: a token, or none where the text ends; or a refusal.
+abbrev pub Raw : Type 0
+Raw = Result (Option Lexeme) Refusal
+
+-- What a rule makes of a token: its kind and the place behind it, or a refusal.
+abbrev pub Lexed : Type 0
+Lexed = Result (Token × Place) Refusal
 
 -- The rule that a first character calls for.
 unfoldable pub rules : List (Row Rule)
@@ -41,39 +44,39 @@ rule_of c = said rules Classed c
 
 -- A run or a comment as a token.
 unfoldable pub as_token : Token → Ran → Lexed
-as_token kind (To p) = As kind p
-as_token kind (Stopped f) = Not f
+as_token kind (Ok p) = Ok (kind, p)
+as_token kind (Err f) = Err f
 
 -- `/`: a line comment, a block comment, or Slash.
 unfoldable pub slash_rule : ℕ → Place → Chars → Lexed
-slash_rule o p (end n) = As Token.Slash n
-slash_rule o p (ill i) = Not (IllFormed i)
+slash_rule o p (end n) = Ok (Token.Slash, n)
+slash_rule o p (ill i) = Err (IllFormed i)
 slash_rule o p (char n c v) =
     if eqb c 47 then as_token Token.Comment (line_comment v)
     else (if eqb c 42 then as_token Token.Comment (block_comment (in_map o p) (Block.Other 1) v)
-    else As Token.Slash n)
+    else Ok (Token.Slash, n))
 
 -- `-`: RArrow if `>` follows, else Minus.
 unfoldable pub dash_rule : Chars → Lexed
-dash_rule (end n) = As Token.Minus n
-dash_rule (ill i) = Not (IllFormed i)
-dash_rule (char n c v) = if eqb c 62 then As Token.RArrow (place_of v) else As Token.Minus n
+dash_rule (end n) = Ok (Token.Minus, n)
+dash_rule (ill i) = Err (IllFormed i)
+dash_rule (char n c v) = if eqb c 62 then Ok (Token.RArrow, place_of v) else Ok (Token.Minus, n)
 
 -- `%`: with a keylike start and the longest run of continuations, or alone.
 unfoldable pub percent_rule : Chars → Lexed
-percent_rule (end n) = As Token.ExplicitId n
-percent_rule (ill i) = Not (IllFormed i)
-percent_rule (char n c v) = if keylike_start c then as_token Token.ExplicitId (run keylike_continue v) else As Token.ExplicitId n
+percent_rule (end n) = Ok (Token.ExplicitId, n)
+percent_rule (ill i) = Err (IllFormed i)
+percent_rule (char n c v) = if keylike_start c then as_token Token.ExplicitId (run keylike_continue v) else Ok (Token.ExplicitId, n)
 
 -- A word's end gives its bytes, and those its kind.
 unfoldable pub as_word : List ℕ → Place → Ran → Lexed
-as_word s p (To n) = As (keyword (take (n.0 - p.0) (drop p.0 s))) n
-as_word s p (Stopped f) = Not f
+as_word s p (Ok n) = Ok (keyword (take (n.0 - p.0) (drop p.0 s)), n)
+as_word s p (Err f) = Err f
 
 -- A string's end.
-unfoldable pub as_string : Literal → Lexed
-as_string (Closed n count) = As Token.StringLiteral n
-as_string (Refused' f) = Not f
+unfoldable pub as_string : Result Literal Refusal → Lexed
+as_string (Ok l) = Ok (Token.StringLiteral, l.end)
+as_string (Err f) = Err f
 
 -- The token at p, whose first character is c and behind which v is seen, by its rule.
 unfoldable pub lexed_by : Rule → List ℕ → ℕ → Place → ℕ → Chars → Lexed
@@ -84,18 +87,18 @@ lexed_by Percent s o p c v = percent_rule v
 lexed_by Quote s o p c v = as_string (string_literal s o (in_map o p) (place_of v))
 lexed_by Digits s o p c v = as_token Token.Integer (run digit v)
 lexed_by Word s o p c v = as_word s p (run keylike_continue v)
-lexed_by (Mark kind) s o p c v = As kind (place_of v)
-lexed_by Classed s o p c v = if keylike_start c then as_word s p (run keylike_continue v) else Not (Unexpected (in_map o p) c)
+lexed_by (Mark kind) s o p c v = Ok (kind, place_of v)
+lexed_by Classed s o p c v = if keylike_start c then as_word s p (run keylike_continue v) else Err (Unexpected (in_map o p) c)
 
 -- A token with its span.
 unfoldable pub spanned : ℕ → Place → Lexed → Raw
-spanned o p (As kind n) = Found kind (record { start = in_map o p; end = in_map o n }) n
-spanned o p (Not f) = Refused f
+spanned o p (Ok (kind, n)) = Ok (Some (record { kind = kind; span = record { start = in_map o p; end = in_map o n }; next = n }))
+spanned o p (Err f) = Err f
 
 -- The raw token that a view starts with.
 unfoldable pub raw_of : List ℕ → ℕ → Chars → Raw
-raw_of s o (end p) = End
-raw_of s o (ill i) = Refused (IllFormed i)
+raw_of s o (end p) = Ok None
+raw_of s o (ill i) = Err (IllFormed i)
 raw_of s o (char p c v) = spanned o p (lexed_by (rule_of c) s o p c v)
 
 -- The raw token at a place of a text that stands at this offset in the map.

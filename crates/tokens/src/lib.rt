@@ -8,7 +8,7 @@ use kinds::Token;
 pub use rules::next_raw;
 
 // The rule that a token's first character calls for.
-#[derive(Clone, Copy)]
+#[derive(Clone, Copy, Debug, PartialEq, Eq)]
 pub enum Rule {
     Blanks,
     Slash,
@@ -23,17 +23,16 @@ pub enum Rule {
     Classed,
 }
 
-// What a raw step answers: a token with its span and the place behind it, the end of the text, or a refusal.
-#[derive(Clone, Copy)]
-pub enum Raw {
-    Token(Token, Span, Place),
-    End,
-    Refused(Refusal),
+// A raw token: its kind, its span, and the place behind it.
+#[derive(Clone, Copy, Debug, PartialEq, Eq)]
+pub struct Lexeme {
+    pub kind: Token,
+    pub span: Span,
+    pub next: Place,
 }
 
+// What a raw step answers: a token, or none where the text ends; or a refusal.
+pub type Raw = Result<Option<Lexeme>, Refusal>;
+
 // What a rule makes of a token: its kind and the place behind it, or a refusal.
-#[derive(Clone, Copy)]
-pub enum Lexed {
-    As(Token, Place),
-    Not(Refusal),
-}
+pub type Lexed = Result<(Token, Place), Refusal>;

@@ -2,13 +2,12 @@
 ghost use Rattle.std.specs.Prelude.{◌≡◌, ◌≤◌, length};
 ghost use Rattle.chars.specs.View.{folded_from};
 ghost use Rattle.runs.specs.Comments.{run};
-ghost use Rattle.tokens.specs.Tokens.{rule_of, as_token, slash_rule, dash_rule, percent_rule, as_word, as_string, lexed_by, spanned, raw_at};
+ghost use Rattle.tokens.specs.Tokens.{rule_of, as_token, slash_rule, dash_rule, percent_rule, as_word, as_string, lexed_by, raw_at};
 ghost use Rattle.runs.specs.inner.Runs.{class_of};
 ghost use Rattle.tokens.specs.inner.Settled.{settled};
 
-use crate::{Lexed, Raw, Rule};
+use crate::{Lexed, Lexeme, Raw, Rule};
 use answers::{Place, Refusal, Span};
-use chars::Read;
 use kinds::Token;
 use runs::{Ran, Run};
 use strings::Literal;
@@ -48,32 +47,24 @@ fn rule_of(c: u32) -> Rule
 }
 
 // A run or a comment as a token.
+#[tactic(auto, unfolding(crate::specs::Tokens::as_token))]
 fn as_token(kind: Token, ran: Ran) -> Lexed
     ensures { result ≡ as_token kind ran }
 {
-    match ran {
-        Ran::To(end) => Lexed::As(kind, end),
-        Ran::Stopped(refusal) => Lexed::Not(refusal),
-    }
+    Ok((kind, ran?))
 }
 
 // `/` at a place, with the next place behind it: a comment, or Slash.
 fn slash_rule(text: &[u8], offset: u32, at: Place, next: Place) -> Lexed
     ensures { result ≡ slash_rule offset at (folded_from text.now next) }
 {
-    match chars::folded_at(text, next) {
-        Read::End => Lexed::As(Token::Slash, next),
-        Read::Ill(ill) => Lexed::Not(Refusal::IllFormed(ill)),
-        Read::Char(c, behind) => {
-            if c == 47 {
-                return as_token(Token::Comment, runs::line_comment(text, behind));
-            }
-            if c == 42 {
-                let start = answers::in_map(offset, at);
-                return as_token(Token::Comment, runs::block_comment(text, start, behind));
-            }
-            Lexed::As(Token::Slash, next)
+    match chars::folded_at(text, next)? {
+        Some((47, behind)) => as_token(Token::Comment, runs::line_comment(text, behind)),
+        Some((42, behind)) => {
+            let start = answers::in_map(offset, at);
+            as_token(Token::Comment, runs::block_comment(text, start, behind))
         }
+        _ => Ok((Token::Slash, next)),
     }
 }
 
@@ -81,15 +72,9 @@ fn slash_rule(text: &[u8], offset: u32, at: Place, next: Place) -> Lexed
 fn dash_rule(text: &[u8], next: Place) -> Lexed
     ensures { result ≡ dash_rule (folded_from text.now next) }
 {
-    match chars::folded_at(text, next) {
-        Read::End => Lexed::As(Token::Minus, next),
-        Read::Ill(ill) => Lexed::Not(Refusal::IllFormed(ill)),
-        Read::Char(c, behind) => {
-            if c == 62 {
-                return Lexed::As(Token::RArrow, behind);
-            }
-            Lexed::As(Token::Minus, next)
-        }
+    match chars::folded_at(text, next)? {
+        Some((62, behind)) => Ok((Token::RArrow, behind)),
+        _ => Ok((Token::Minus, next)),
     }
 }
 
@@ -97,44 +82,27 @@ fn dash_rule(text: &[u8], next: Place) -> Lexed
 fn percent_rule(text: &[u8], next: Place) -> Lexed
     ensures { result ≡ percent_rule (folded_from text.now next) }
 {
-    match chars::folded_at(text, next) {
-        Read::End => Lexed::As(Token::ExplicitId, next),
-        Read::Ill(ill) => Lexed::Not(Refusal::IllFormed(ill)),
-        Read::Char(c, behind) => {
-            if classes::is_keylike_start(c) {
-                return as_token(Token::ExplicitId, runs::run_on(text, behind, Run::Keylike));
-            }
-            Lexed::As(Token::ExplicitId, next)
+    match chars::folded_at(text, next)? {
+        Some((c, behind)) if classes::is_keylike_start(c) => {
+            as_token(Token::ExplicitId, runs::run_on(text, behind, Run::Keylike))
         }
+        _ => Ok((Token::ExplicitId, next)),
     }
 }
 
 // The word from `at` on whose first character ends before `next`: its end gives its bytes, and those its kind.
+#[tactic(auto, unfolding(crate::specs::Tokens::as_word), using(runs::proofs::RunLaws::run_to))]
 fn word_rule(text: &[u8], at: Place, next: Place) -> Lexed
     requires { (at.0 ≤ next.0) × (next.0 ≤ length text.now) }
     ensures { result ≡ as_word text.now at (run (class_of Run.Keylike) (folded_from text.now next)) }
 {
-    match runs::run_from(text, next, Run::Keylike) {
-        Ran::To(end) => {
-            let from = at.0 as usize;
-            let to = end.0 as usize;
-            Lexed::As(kinds::keyword(&text[from..to]), end)
-        }
-        Ran::Stopped(refusal) => Lexed::Not(refusal),
-    }
-}
-
-// The rule of a character that its class decides on.
-fn rule_by_class(c: u32) -> Rule
-    ensures { result ≡ settled Rule.Classed c }
-{
-    if classes::is_keylike_start(c) {
-        return Rule::Word;
-    }
-    Rule::Classed
+    let end = runs::run_from(text, next, Run::Keylike)?;
+    let word = &text[at.0 as usize..end.0 as usize];
+    Ok((kinds::keyword(word), end))
 }
 
 // The rule that a first character calls for, with its class asked where that decides. Most words begin with a small letter, so that comes first.
+#[tactic(auto, unfolding(crate::specs::inner::Settled::settled), using(crate::proofs::SettledLaws::small, crate::proofs::SettledLaws::settled_other))]
 fn settled_rule(c: u32) -> Rule
     ensures { result ≡ settled (rule_of c) c }
 {
@@ -142,26 +110,17 @@ fn settled_rule(c: u32) -> Rule
         return Rule::Word;
     }
     match rule_of(c) {
-        Rule::Blanks => Rule::Blanks,
-        Rule::Slash => Rule::Slash,
-        Rule::Dash => Rule::Dash,
-        Rule::Percent => Rule::Percent,
-        Rule::Quote => Rule::Quote,
-        Rule::Digits => Rule::Digits,
-        Rule::Word => Rule::Word,
-        Rule::Mark(kind) => Rule::Mark(kind),
-        Rule::Classed => rule_by_class(c),
+        Rule::Classed if classes::is_keylike_start(c) => Rule::Word,
+        rule => rule,
     }
 }
 
 // A string's end.
-fn as_string(literal: Literal) -> Lexed
+#[tactic(auto, unfolding(crate::specs::Tokens::as_string))]
+fn as_string(literal: Result<Literal, Refusal>) -> Lexed
     ensures { result ≡ as_string literal }
 {
-    match literal {
-        Literal::Closed(end, _) => Lexed::As(Token::StringLiteral, end),
-        Literal::Refused(refusal) => Lexed::Not(refusal),
-    }
+    Ok((Token::StringLiteral, literal?.end))
 }
 
 // The token at a place, whose first character ends before `next`, by the rule that this character calls for.
@@ -180,22 +139,8 @@ fn lexed_by(text: &[u8], offset: u32, at: Place, c: u32, next: Place) -> Lexed
         }
         Rule::Digits => as_token(Token::Integer, runs::run_from(text, next, Run::Digits)),
         Rule::Word => word_rule(text, at, next),
-        Rule::Mark(kind) => Lexed::As(kind, next),
-        Rule::Classed => { Lexed::Not(Refusal::Unexpected(answers::in_map(offset, at), c)) }
-    }
-}
-
-// A token with its span.
-fn spanned_by(offset: u32, at: Place, lexed: Lexed) -> Raw
-    ensures { result ≡ spanned offset at lexed }
-{
-    match lexed {
-        Lexed::As(kind, end) => {
-            let start = answers::in_map(offset, at);
-            let behind = answers::in_map(offset, end);
-            Raw::Token(kind, Span { start, end: behind }, end)
-        }
-        Lexed::Not(refusal) => Raw::Refused(refusal),
+        Rule::Mark(kind) => Ok((kind, next)),
+        Rule::Classed => { Err(Refusal::Unexpected(answers::in_map(offset, at), c)) }
     }
 }
 
@@ -203,9 +148,12 @@ fn spanned_by(offset: u32, at: Place, lexed: Lexed) -> Raw
 pub fn next_raw(text: &[u8], offset: u32, at: Place) -> Raw
     ensures { result ≡ raw_at text.now offset at }
 {
-    match chars::folded_at(text, at) {
-        Read::End => Raw::End,
-        Read::Ill(ill) => Raw::Refused(Refusal::IllFormed(ill)),
-        Read::Char(c, next) => spanned_by(offset, at, lexed_by(text, offset, at, c, next)),
-    }
+    let Some((c, behind)) = chars::folded_at(text, at)? else {
+        return Ok(None);
+    };
+    let (kind, next) = lexed_by(text, offset, at, c, behind)?;
+    let start = answers::in_map(offset, at);
+    let end = answers::in_map(offset, next);
+    let span = Span { start, end };
+    Ok(Some(Lexeme { kind, span, next }))
 }
