@@ -9,6 +9,7 @@ pub use comments::{block_comment, line_comment};
 pub use runs::{run_from, run_on};
 
 // The runs that rules take: of blanks, of digits, and of keylike continuations.
+// An enum with methods: a closure for each of a run's class, set and start is no plainer, since the three belong together.
 #[derive(Clone, Copy, Debug, PartialEq, Eq)]
 pub enum Run {
     Blanks,

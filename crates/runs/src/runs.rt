@@ -52,7 +52,7 @@ impl Run {
     }
 
     // Where a run is looked at character by character. A byte below 0xCB starts no character above U+02BF, and those need no table; behind
-    // another, all of the word is passed over by one call, which lends its tables once.
+    // another, all of the word is passed over by one call, whose loop knows its class.
     #[tactic(auto, unfolding(crate::specs::inner::Runs::passed_over))]
     fn passed_over(self, text: &[u8], from: Place) -> Place
         ensures { result ≡ passed_over self text.now from }

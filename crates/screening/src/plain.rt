@@ -69,6 +69,7 @@ pub fn plain_end(text: &[u8], at: Place, less: [u8; 3]) -> Place
 {
     let end = chars::limit(text);
     let mut k = at.0 as usize;
+    // a `for` over chunks is no plainer: the search of what is left behind the last 64 goes on from k
     while k + 64 <= end {
         // characters of several bytes often stand together
         if stops(text[k], less) {

@@ -8,6 +8,7 @@ use kinds::Token;
 pub use rules::next_raw;
 
 // The rule that a token's first character calls for.
+// An enum, and no function to call: the table `rules` (specs/Tokens.antt), which `rule_of` promises, has it as a value.
 #[derive(Clone, Copy, Debug, PartialEq, Eq)]
 pub enum Rule {
     Blanks,

@@ -1,4 +1,5 @@
--- The bytes that runs and comments pass over at once, and the states of a block comment. `proofs/RunLaws.antt` and `proofs/CommentLaws.antt` tie them to the rules.
+-- The bytes that runs and comments pass over at once, and the states of a block comment. `proofs/RunLaws.antt` and `proofs/CommentLaws.antt`
+-- tie them to the rules.
 use Rattle.std.specs.Prelude.{ℕ, ◌≤◌, Bool, List, [], ◌∷◌, ltb, if◌then◌else◌}
 use Rattle.answers.specs.declared.Place.{Place}
 use Rattle.answers.specs.Caps.{cap}
