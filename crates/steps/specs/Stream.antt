@@ -1,11 +1,10 @@
 -- A text as its raw tokens from a place on. Steps and listings go by this view, one token a turn.
-use Rattle.std.specs.Prelude.{ℕ, zero, suc, ◌-◌, List, length}
+use Rattle.std.specs.Prelude.{ℕ, zero, suc, ◌-◌, List, length, None, Some, Ok, Err}
 use Rattle.answers.specs.declared.Place.{Place}
 use Rattle.answers.specs.declared.Span.{Span}
 use Rattle.answers.specs.declared.Refusal.{Refusal}
 use Rattle.kinds.specs.declared.Token.{Token}
-use Rattle.tokens.specs.declared.Raw.{Raw}
-use Rattle.tokens.specs.Tokens.{raw_at}
+use Rattle.tokens.specs.Tokens.{Raw, raw_at}
 
 -- The tokens from a place on: the text ends there, a token is refused there, or one stands there with the place behind it, and others follow.
 pub data Tokens : Type 0 where
@@ -15,9 +14,9 @@ pub data Tokens : Type 0 where
 
 -- What is seen from p on, where r stands at p and `more n` is what is seen from n on.
 unfoldable pub after_raw : Place → Raw → (Place → Tokens) → Tokens
-after_raw p (Raw.Token kind span n) more = token kind span n (more n)
-after_raw p Raw.End more = done p
-after_raw p (Raw.Refused f) more = stop f
+after_raw p (Ok (Some t)) more = token t.kind t.span t.next (more t.next)
+after_raw p (Ok None) more = done p
+after_raw p (Err f) more = stop f
 
 -- What is seen from p on, as far as k tokens go.
 unfoldable pub tokens_by : (Place → Raw) → ℕ → Place → Tokens

@@ -10,24 +10,11 @@ use kinds::Token;
 pub use opening::open;
 pub use stepping::{check_step, is_blank, next_at, next_raw_at, next_step};
 
-// What opening answers: the place where the cursor stands, or the refusal.
-#[derive(Clone, Copy)]
-pub enum Opened {
-    At(Place),
-    Refused(Refusal),
-}
-
-// What a step answers: a token with its span; the end of the text; `No` from eat alone, where the next token is another; or a refusal.
-#[derive(Clone, Copy)]
-pub enum Step {
-    Token(Token, Span),
-    End,
-    No,
-    Refused(Refusal),
-}
+// What a step answers: a token with its span; no token, at the end of the text and, from eat, where the next token is another; or a refusal.
+pub type Step = Result<Option<(Token, Span)>, Refusal>;
 
 // A step's answer, and the place where the cursor then stands.
-#[derive(Clone, Copy)]
+#[derive(Clone, Copy, Debug, PartialEq, Eq)]
 pub struct Moved {
     pub step: Step,
     pub at: Place,

@@ -7,114 +7,86 @@ ghost use Rattle.steps.specs.Steps.{step_verdict};
 ghost use Rattle.wants.specs.Wanted.{kind_verdict, eat_step, eat_at, expect_step, expect_at};
 
 use answers::{Place, Position, Refusal, Verdict};
-use steps::{Moved, Step};
+use steps::Moved;
 
 // What a step checks before it reads, 1, 2, 23, then 22 for a wanted kind above 66.
+#[tactic(auto, unfolding(crate::specs::Wanted::kind_verdict, answers::specs::Caps::first_of))]
 fn check_wanted(text: &[u8], offset: u32, wanted: u32, at: Place) -> Verdict
     ensures { result ≡ first_of (step_verdict text.now offset at) (kind_verdict wanted) }
 {
-    if let Verdict::Refused(refusal) = steps::check_step(text, offset, at) {
-        return Verdict::Refused(refusal);
-    }
+    steps::check_step(text, offset, at)?;
     if wanted <= 66 {
-        return Verdict::Accepted;
+        return Ok(());
     }
-    Verdict::Refused(Refusal::BadSpan)
+    Err(Refusal::BadSpan)
 }
 
-fn eat_step(wanted: u32, from: Place, step: Step, next: Place) -> Moved
-    ensures { result ≡ eat_step wanted from step next }
+#[tactic(auto, unfolding(crate::specs::Wanted::eat_step))]
+fn eat_step(wanted: u32, from: Place, found: Moved) -> Moved
+    ensures { result ≡ eat_step wanted from found.step found.at }
 {
-    match step {
-        Step::Token(kind, span) => {
-            if kind.kind() as u32 == wanted {
-                return Moved {
-                    step: Step::Token(kind, span),
-                    at: next,
-                };
-            }
-            Moved {
-                step: Step::No,
-                at: from,
-            }
-        }
-        Step::End => Moved {
-            step: Step::No,
+    match found.step {
+        Ok(Some((kind, _))) if kind.kind() as u32 == wanted => found,
+        Ok(_) => Moved {
+            step: Ok(None),
             at: from,
         },
-        Step::No => Moved {
-            step: Step::No,
-            at: from,
-        },
-        Step::Refused(refusal) => Moved {
-            step: Step::Refused(refusal),
+        Err(refusal) => Moved {
+            step: Err(refusal),
             at: from,
         },
     }
 }
 
 // Eat: the next token only if it is of the wanted kind.
+#[tactic(auto, unfolding(crate::specs::Wanted::eat_at, steps::specs::Steps::moved_by))]
 pub fn eat_at(text: &[u8], offset: u32, wanted: u32, at: Place) -> Moved
     ensures { result ≡ eat_at text.now offset wanted at }
 {
-    if let Verdict::Refused(refusal) = check_wanted(text, offset, wanted, at) {
-        return Moved {
-            step: Step::Refused(refusal),
+    match check_wanted(text, offset, wanted, at) {
+        Ok(()) => eat_step(wanted, at, steps::next_step(text, offset, at)),
+        Err(refusal) => Moved {
+            step: Err(refusal),
             at,
-        };
+        },
     }
-    let found = steps::next_step(text, offset, at);
-    let step = found.step;
-    let next = found.at;
-    eat_step(wanted, at, step, next)
 }
 
-fn expect_step(wanted: u32, end: Position, from: Place, step: Step, next: Place) -> Moved
+#[tactic(auto, unfolding(crate::specs::Wanted::expect_step))]
+fn expect_step(wanted: u32, end: Position, from: Place, found: Moved) -> Moved
     requires { wanted ≤ 66 }
-    ensures { result ≡ expect_step wanted end from step next }
+    ensures { result ≡ expect_step wanted end from found.step found.at }
 {
-    match step {
-        Step::Token(kind, span) => {
-            if kind.kind() as u32 == wanted {
-                return Moved {
-                    step: Step::Token(kind, span),
-                    at: next,
-                };
-            }
-            let start = span.start;
-            Moved {
-                step: Step::Refused(Refusal::Wanted(start, wanted as u8, kind.kind())),
-                at: next,
-            }
-        }
-        Step::End => Moved {
-            step: Step::Refused(Refusal::Wanted(end, wanted as u8, 67)),
-            at: next,
+    match found.step {
+        Ok(Some((kind, _))) if kind.kind() as u32 == wanted => found,
+        Ok(Some((kind, span))) => Moved {
+            step: Err(Refusal::Wanted(span.start, wanted as u8, kind.kind())),
+            at: found.at,
         },
-        Step::No => Moved {
-            step: Step::No,
-            at: from,
+        Ok(None) => Moved {
+            step: Err(Refusal::Wanted(end, wanted as u8, 67)),
+            at: found.at,
         },
-        Step::Refused(refusal) => Moved {
-            step: Step::Refused(refusal),
+        Err(refusal) => Moved {
+            step: Err(refusal),
             at: from,
         },
     }
 }
 
 // Expect: the next token, which is to be of the wanted kind; else 21.
+#[tactic(auto, unfolding(crate::specs::Wanted::expect_at, steps::specs::Steps::moved_by))]
 pub fn expect_at(text: &[u8], offset: u32, wanted: u32, at: Place) -> Moved
     ensures { result ≡ expect_at text.now offset wanted at }
 {
-    if let Verdict::Refused(refusal) = check_wanted(text, offset, wanted, at) {
-        return Moved {
-            step: Step::Refused(refusal),
+    match check_wanted(text, offset, wanted, at) {
+        Ok(()) => {
+            let end = answers::in_map(offset, Place(text.len() as u32));
+            expect_step(wanted, end, at, steps::next_step(text, offset, at))
+        }
+        Err(refusal) => Moved {
+            step: Err(refusal),
             at,
-        };
+        },
     }
-    let end = answers::in_map(offset, Place(text.len() as u32));
-    let found = steps::next_step(text, offset, at);
-    let step = found.step;
-    let next = found.at;
-    expect_step(wanted, end, at, step, next)
 }
