@@ -8,7 +8,7 @@ use prog.Routine.{Routine}
 use types.Logic.{Logic}
 use contract.Monad.{Fun}
 use Rattle.terms.proofs.OneAnswer.{OneOutcome, agree}
-use Rattle.listing.specs.declared.Listed.{Listed}
+use Rattle.listing.specs.Listings.{Listed}
 use Rattle.listing.specs.contracts.list
 
 module _ {M : Type 1} {𝓤 : Ura M} (𝓛 : Logic 𝓤) (mem : Memory → SProp 𝓤) (run : Routine → Fun 𝓤) where

@@ -1,8 +1,7 @@
 -- 01, "Tokens" and "How far each contract reaches": what is promised of whole listings beyond the equation of each. The theorems are in proofs/Coverage.antt.
-use Rattle.std.specs.Prelude.{ℕ, ◌≡◌, Bool, ◌&&◌, List, [], ◌∷◌, ◌++◌, length, eqb, ltb, if◌then◌else◌}
+use Rattle.std.specs.Prelude.{ℕ, ◌≡◌, Bool, ◌&&◌, List, [], ◌∷◌, ◌++◌, length, eqb, ltb, None, Some, Ok, if◌then◌else◌}
 use Rattle.answers.specs.declared.Place.{Place}
 use Rattle.answers.specs.Places.{place}
-use Rattle.steps.specs.declared.Step.{Step}
 use Rattle.steps.specs.Steps.{is_blank, moved, next_at}
 use Rattle.listing.specs.Rows.{Row, Rows, rows, refused}
 
@@ -23,5 +22,5 @@ unblanked_rows (refused f) = refused f
 
 -- Next, called again and again from a cursor, answers these rows one by one, and then the end of the text.
 unfoldable pub Stepped : List ℕ → ℕ → Place → List Row → Type 0
-Stepped s o p [] = next_at s o p ≡ moved Step.End (place (length s))
-Stepped s o p (r ∷ rs) = (n : Place) × (next_at s o p ≡ moved (Step.Token r.kind r.span) n) × Stepped s o n rs
+Stepped s o p [] = next_at s o p ≡ moved (Ok None) (place (length s))
+Stepped s o p (r ∷ rs) = (n : Place) × (next_at s o p ≡ moved (Ok (Some (r.kind, r.span))) n) × Stepped s o n rs

@@ -1,12 +1,11 @@
 -- 01, "Tokens": the rows of a text.
-use Rattle.std.specs.Prelude.{ℕ, Bool, true, not, List, [], ◌∷◌, ◌++◌, if◌then◌else◌}
+use Rattle.std.specs.Prelude.{ℕ, Bool, true, not, List, [], ◌∷◌, ◌++◌, Ok, Err, if◌then◌else◌}
 use Rattle.answers.specs.declared.Span.{Span}
 use Rattle.answers.specs.declared.Refusal.{Refusal}
 use Rattle.kinds.specs.declared.Token.{Token}
 use Rattle.kinds.specs.Kinds.{kind_of}
-use Rattle.steps.specs.declared.Opened.{Opened}
 use Rattle.steps.specs.Stream.{Tokens, done, stop, token, tokens_from}
-use Rattle.steps.specs.Steps.{opened, is_blank}
+use Rattle.steps.specs.Steps.{Opened, opened, is_blank}
 use Rattle.listing.specs.declared.Listing.{Listing}
 
 -- A row tells of one token.
@@ -54,8 +53,8 @@ rows_of l (token kind span n t) = ahead (row_of l kind span) (rows_of l t)
 
 -- The rows of a text that is opened, from its cursor to its end.
 unfoldable pub rows_by : Listing → List ℕ → ℕ → Opened → Rows
-rows_by l s o (Opened.At p) = rows_of l (tokens_from s o p)
-rows_by l s o (Opened.Refused f) = refused f
+rows_by l s o (Ok p) = rows_of l (tokens_from s o p)
+rows_by l s o (Err f) = refused f
 
 -- The rows of a text.
 unfoldable pub text_rows : Listing → List ℕ → ℕ → Rows

@@ -3,66 +3,43 @@
 
 mod stage;
 
-ghost use Rattle.std.specs.Prelude.{◌≡◌, ◌≤◌, length};
-ghost use Rattle.answers.specs.Caps.{cap};
-ghost use Rattle.steps.specs.Stream.{tokens_from};
-ghost use Rattle.listing.specs.Rows.{rows_of};
-ghost use Rattle.listing.specs.Listings.{tabled, listed};
+ghost use Rattle.std.specs.Prelude.{◌≡◌, ◌*◌, ◌≤◌, length, min};
+ghost use Rattle.listing.specs.Rows.{row_words};
+ghost use Rattle.listing.specs.Listings.{row_cap, listed};
 
-use answers::{Place, Refusal};
-use steps::Opened;
+use answers::Refusal;
 
 // Which tokens have a row: all of them, or none that is a blank or a comment.
-#[derive(Clone, Copy)]
+#[derive(Clone, Copy, Debug, PartialEq, Eq)]
 pub enum Listing {
     Raw,
     Filtered,
 }
 
-// What a listing answers: how many rows it wrote, or the refusal.
-#[derive(Clone, Copy)]
-pub enum Listed {
-    Count(u32),
-    Refused(Refusal),
-}
-
-// A text of at most this many bytes is tried with a small stage first: few such texts have more rows than that has room for.
-const SMALL: usize = 2048;
-
-// The rows from a place on. Only the end of the text decides whether any is written, so they are staged here and copied once.
-fn list_large(text: &[u8], offset: u32, from: Place, listing: Listing, table: &mut [u32]) -> Listed
-    requires { (from.0 ≤ length text.now) × (length text.now ≤ cap) }
-    ensures { (result, table.new) ≡ tabled (rows_of listing (tokens_from text.now offset from)) table.old }
-{
-    let mut large = [0u32; 12288];
-    let counted = stage::rows_from(text, offset, from, listing, &mut large);
-    stage::deliver(counted, &large, table)
-}
-
-// The same with a stage for 512 rows, which takes less time to make.
-fn list_small(text: &[u8], offset: u32, from: Place, listing: Listing, table: &mut [u32]) -> Listed
-    requires { (from.0 ≤ length text.now) × (length text.now ≤ cap) }
-    ensures { (result, table.new) ≡ tabled (rows_of listing (tokens_from text.now offset from)) table.old }
-{
-    let mut small = [0u32; 1536];
-    let counted = stage::rows_from(text, offset, from, listing, &mut small);
-    if stage::fits(counted) {
-        return stage::deliver(counted, &small, table);
-    }
-    list_large(text, offset, from, listing, table)
-}
-
-// Opens a text, steps to its end, then judges 24 and 25.
-pub fn list(text: &[u8], offset: u32, listing: Listing, table: &mut [u32]) -> Listed
+// A listing by way of a stage of so many words: only the end of the text decides whether any row is written, so all are staged first, and copied once.
+fn list_with<const WORDS: usize>(
+    text: &[u8],
+    offset: u32,
+    listing: Listing,
+    table: &mut [u32],
+) -> Result<u32, Refusal>
+    requires { (min (length text.now) row_cap * row_words ≤ WORDS) × (WORDS ≤ row_cap * row_words) }
     ensures { (result, table.new) ≡ listed listing text.now offset table.old }
 {
-    match steps::open(text, offset) {
-        Opened::At(from) => {
-            if text.len() <= SMALL {
-                return list_small(text, offset, from, listing, table);
-            }
-            list_large(text, offset, from, listing, table)
-        }
-        Opened::Refused(refusal) => Listed::Refused(refusal),
+    let from = steps::open(text, offset)?;
+    let mut staged = [0u32; WORDS];
+    let count = stage::rows_from(text, offset, from, listing, &mut staged)?;
+    stage::deliver(count, &staged, table)
+}
+
+// Opens a text, steps to its end, then judges 24 and 25. A text has no more rows than bytes, and a small stage takes less time to make.
+pub fn list(text: &[u8], offset: u32, listing: Listing, table: &mut [u32]) -> Result<u32, Refusal>
+    ensures { (result, table.new) ≡ listed listing text.now offset table.old }
+{
+    match text.len() {
+        0..=512 => list_with::<1536>(text, offset, listing, table),
+        513..=1024 => list_with::<3072>(text, offset, listing, table),
+        1025..=2048 => list_with::<6144>(text, offset, listing, table),
+        _ => list_with::<12288>(text, offset, listing, table),
     }
 }

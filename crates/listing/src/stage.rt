@@ -1,16 +1,16 @@
 //! The walk of a listing: rows are staged as the tokens are read, and delivered when the text has ended.
-ghost use Rattle.std.specs.Prelude.{◌≡◌, ◌+◌, ◌*◌, ◌≤◌, ◌++◌, length, take, drop};
+ghost use Rattle.std.specs.Prelude.{◌≡◌, ◌+◌, ◌*◌, ◌≤◌, length, Ok};
 ghost use Rattle.answers.specs.Caps.{cap};
 ghost use Rattle.steps.specs.Stream.{tokens_from};
 ghost use Rattle.listing.specs.Rows;
 ghost use Rattle.listing.specs.Rows.{row_words, words_of, row_of, rows_of};
-ghost use Rattle.listing.specs.inner.Staging;
-ghost use Rattle.listing.specs.inner.Staging.{put, laid, Staged, Deliverable, delivered};
+ghost use Rattle.listing.specs.Listings.{row_cap};
+ghost use Rattle.listing.specs.inner.Staging.{put, laid, Staged, delivered};
 
-use crate::{Listed, Listing};
+use crate::Listing;
 use answers::{Place, Refusal, Span};
 use kinds::Token;
-use tokens::Raw;
+use tokens::Lexeme;
 
 // The words of a row, and the rows that one listing may have.
 const ROW_WORDS: usize = 3;
@@ -18,6 +18,7 @@ const ROW_WORDS: usize = 3;
 const ROW_CAP: u32 = 4096;
 
 // Whether a kind has a row.
+#[tactic(auto, unfolding(crate::specs::Rows::keeps))]
 fn keeps(listing: Listing, kind: Token) -> bool
     ensures { result ≡ Rows.keeps listing kind }
 {
@@ -28,28 +29,28 @@ fn keeps(listing: Listing, kind: Token) -> bool
 }
 
 // The words of a row. They are made here alone.
+#[tactic(auto, unfolding(crate::specs::inner::Staging::put, crate::specs::Rows::words_of))]
 fn put_row(rows: &mut [u32], at: usize, kind: Token, span: Span)
     requires { at + row_words ≤ length rows.old }
     ensures { rows.new ≡ put at (words_of (record { kind = kind; span = span })) rows.old }
 {
-    rows[at] = kind.kind() as u32;
-    rows[at + 1] = span.start.0;
-    rows[at + 2] = span.end.0;
+    let words = [kind.kind() as u32, span.start.0, span.end.0];
+    rows[at..at + ROW_WORDS].copy_from_slice(&words);
 }
 
 // The row of a token that is kept, behind the rows so far where the stage has room for it; how many rows there are then.
-fn stage_row(staged: &mut [u32], count: u32, listing: Listing, kind: Token, span: Span) -> u32
+#[tactic(auto, using(crate::proofs::StageLaws::laid_not, crate::proofs::StageLaws::laid_full, crate::proofs::StageLaws::laid_row))]
+fn stage_row(staged: &mut [u32], count: u32, listing: Listing, lexeme: Lexeme) -> u32
     requires { count ≤ cap }
-    ensures { (result, staged.new) ≡ laid (row_of listing kind span) count staged.old }
+    ensures { (result, staged.new) ≡ laid (row_of listing lexeme.kind lexeme.span) count staged.old }
 {
-    if !keeps(listing, kind) {
+    if !keeps(listing, lexeme.kind) {
         return count;
     }
     let word = count as usize * ROW_WORDS;
-    if word + ROW_WORDS > staged.len() {
-        return count + 1;
+    if word + ROW_WORDS <= staged.len() {
+        put_row(staged, word, lexeme.kind, lexeme.span);
     }
-    put_row(staged, word, kind, span);
     count + 1
 }
 
@@ -60,67 +61,32 @@ pub(crate) fn rows_from(
     from: Place,
     listing: Listing,
     staged: &mut [u32],
-) -> Listed
+) -> Result<u32, Refusal>
     requires { (from.0 ≤ length text.now) × (length text.now ≤ cap) }
     ensures { Staged (length text.now) (rows_of listing (tokens_from text.now offset from)) result staged.old staged.new }
 {
     let mut at = from;
-    let mut count: u32 = 0;
-    loop {
-        match tokens::next_raw(text, offset, at) {
-            Raw::Token(kind, span, next) => {
-                count = stage_row(staged, count, listing, kind, span);
-                at = next;
-            }
-            Raw::End => {
-                return Listed::Count(count);
-            }
-            Raw::Refused(refusal) => {
-                return Listed::Refused(refusal);
-            }
-        }
+    let mut count = 0;
+    while let Some(lexeme) = tokens::next_raw(text, offset, at)? {
+        count = stage_row(staged, count, listing, lexeme);
+        at = lexeme.next;
     }
+    Ok(count)
 }
 
-// A small stage has room for the rows of an answer.
-pub(crate) fn fits(counted: Listed) -> bool
-    ensures { result ≡ Staging.fits counted }
+// Judges 24 and 25 when the text has ended, and only then writes. The stage has the rows of a count that is under the cap.
+#[tactic(auto, unfolding(crate::specs::inner::Staging::delivered))]
+pub(crate) fn deliver(count: u32, staged: &[u32], table: &mut [u32]) -> Result<u32, Refusal>
+    requires { count ≤ row_cap → count * row_words ≤ length staged.now }
+    ensures { (result, table.new) ≡ delivered (Ok count) staged.now table.old }
 {
-    match counted {
-        Listed::Count(count) => count <= 512,
-        Listed::Refused(_) => true,
+    if count > ROW_CAP {
+        return Err(Refusal::TooManyRows(count));
     }
-}
-
-// Copies the first words of a stage to the front of a table.
-fn copy(staged: &[u32], words: usize, table: &mut [u32])
-    requires { (words ≤ length staged.now) × (words ≤ length table.old) }
-    ensures { table.new ≡ take words staged.now ++ drop words table.old }
-{
-    let mut i: usize = 0;
-    while i < words {
-        table[i] = staged[i];
-        i = i + 1;
+    let words = count as usize * ROW_WORDS;
+    if words > table.len() {
+        return Err(Refusal::NoRoom(words as u32));
     }
-}
-
-// Judges 24 and 25 when the text has ended, and only then writes.
-pub(crate) fn deliver(counted: Listed, staged: &[u32], table: &mut [u32]) -> Listed
-    requires { Deliverable counted staged.now }
-    ensures { (result, table.new) ≡ delivered counted staged.now table.old }
-{
-    match counted {
-        Listed::Count(count) => {
-            if count > ROW_CAP {
-                return Listed::Refused(Refusal::TooManyRows(count));
-            }
-            let words = count as usize * ROW_WORDS;
-            if words > table.len() {
-                return Listed::Refused(Refusal::NoRoom(words as u32));
-            }
-            copy(staged, words, table);
-            Listed::Count(count)
-        }
-        Listed::Refused(refusal) => Listed::Refused(refusal),
-    }
+    table[..words].copy_from_slice(&staged[..words]);
+    Ok(count)
 }
