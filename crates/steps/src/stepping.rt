@@ -60,6 +60,7 @@ pub fn is_blank(kind: Token) -> bool
 }
 
 // The first token from a place on that is no blank and no comment.
+// A `while let .. ?` would be no plainer: the end moves the cursor there, and a refusal leaves it at `from`.
 #[tactic(auto, unfolding(crate::specs::Steps::raw_step), using(crate::proofs::StepLaws::next_end, crate::proofs::StepLaws::next_token))]
 pub fn next_step(text: &[u8], offset: u32, from: Place) -> Moved
     ensures { result ≡ next_step from (tokens_from text.now offset from) }

@@ -10,6 +10,7 @@ use answers::{Place, Position, Refusal, Verdict};
 use steps::Moved;
 
 // What a step checks before it reads, 1, 2, 23, then 22 for a wanted kind above 66.
+// `wanted` stays a number: C hands any, and 22 is to come after 1, 2 and 23.
 #[tactic(auto, unfolding(crate::specs::Wanted::kind_verdict, answers::specs::Caps::first_of))]
 fn check_wanted(text: &[u8], offset: u32, wanted: u32, at: Place) -> Verdict
     ensures { result ≡ first_of (step_verdict text.now offset at) (kind_verdict wanted) }
@@ -21,6 +22,7 @@ fn check_wanted(text: &[u8], offset: u32, wanted: u32, at: Place) -> Verdict
     Err(Refusal::BadSpan)
 }
 
+// What eat makes of the next token. Eat and expect stay two functions, as in C, and share what is checked and read before.
 #[tactic(auto, unfolding(crate::specs::Wanted::eat_step))]
 fn eat_step(wanted: u32, from: Place, found: Moved) -> Moved
     ensures { result ≡ eat_step wanted from found.step found.at }
@@ -52,6 +54,7 @@ pub fn eat_at(text: &[u8], offset: u32, wanted: u32, at: Place) -> Moved
     }
 }
 
+// What expect makes of it: 21 at another token's start, or at the end of the text.
 #[tactic(auto, unfolding(crate::specs::Wanted::expect_step))]
 fn expect_step(wanted: u32, end: Position, from: Place, found: Moved) -> Moved
     requires { wanted ≤ 66 }
