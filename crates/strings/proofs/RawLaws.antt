@@ -1,7 +1,7 @@
 -- Raw characters: a run of them equals as many plain turns (`Raw` of `specs/inner/Walking.antt`).
-use Prim.Native.Nat.{ℕ, zero, suc, ◌≤◌, ◌<◌, ◌+◌, ◌-◌}
-use mathlib.Core.Path.{◌≡◌, sym, subst, ◌∙◌}
-use mathlib.Core.Bool.{Bool, true, not, ◌||◌}
+use Prim.Native.Nat.{ℕ, zero, suc, ◌≤◌, ◌<◌, ◌+◌, ◌-◌, min}
+use mathlib.Core.Path.{◌≡◌, refl, sym, subst, ◌∙◌}
+use mathlib.Core.Bool.{Bool, true, not, ◌&&◌, ◌||◌}
 use mathlib.Core.List.{List, [], ◌++◌}
 use native.Mathlib.Omega.{arith}
 use native.Mathlib.Nat.{add-zero, add_assoc}
@@ -12,6 +12,9 @@ use borrow.Author.Tests.{le-ltb, ne_eqb, eqb-false, not-true, not-false}
 use Rattle.terms.specs.Terms.{within, first}
 use Rattle.terms.proofs.TestLaws.{and_both, or_neither, within_true}
 use Rattle.terms.proofs.TableLaws.{split}
+use Rattle.terms.proofs.BelowLaws.{all_below}
+use Rattle.chars.specs.inner.Runs.{in_set, stops_at, run_end}
+use Rattle.chars.proofs.RunLaws.{each_of_set}
 use Rattle.terms.proofs.FirstLaws.{none_before, first_le, first_from}
 use Rattle.answers.specs.declared.Place.{Place}
 use Rattle.answers.specs.Places.{place}
@@ -28,7 +31,7 @@ use Rattle.strings.specs.declared.Turn.TheVariants.{On}
 use Rattle.strings.specs.declared.Seen.{Seen}
 use Rattle.strings.specs.Strings.{plain_turn, turn_of, added}
 use Rattle.strings.specs.inner.Checking.{feeds, pass, Fair}
-use Rattle.strings.specs.inner.Walking.{Comes, is_bare, not_bare, bare_end, Raw}
+use Rattle.strings.specs.inner.Walking.{Comes, bare, Raw}
 use Rattle.strings.proofs.CheckingLaws.{feeds_none, feeds_append, passes, pass_twice, pass_fair}
 use Rattle.strings.proofs.TurnLaws.{went, comes_none, comes_on}
 
@@ -102,15 +105,21 @@ module _ (s : List ℕ) where
       rw f at (raw_join p (q - p.0) (m - q) a (rw e b))
 
   -- a bare byte
-  bare_is : (b : ℕ) → is_bare b ≡ true → Bare b × (b < 0x7F)
-  unfolding is_bare
+  abbrev standing : ℕ → Bool
+  standing b = within 0x20 0x7E b && not (eqb b 0x22 || eqb b 0x5C)
+
+  all_standing : all_below 128 (λ b. not (in_set bare b) || standing b) ≡ true
+  unfolding all_below in_set within
+  all_standing = refl
+
+  bare_is : (b : ℕ) → in_set bare b ≡ true → Bare b × (b < 0x7F)
   bare_is b e =
-      let a = and_both (within 0x20 0x7E b) (not (eqb b 0x22 || eqb b 0x5C)) e in
+      let a = and_both (within 0x20 0x7E b) (not (eqb b 0x22 || eqb b 0x5C)) (each_of_set bare standing all_standing b e) in
       let w = within_true 0x20 0x7E b a.0 in
       let n = or_neither (eqb b 0x22) (eqb b 0x5C) (not-true _ a.1) in
       (record { high = w.0; quote = eqb-false _ _ n.0; slash = eqb-false _ _ n.1; del = λ d. omega arith }, omega arith)
 
-  raw_bare : (p : Place) → p.0 < length s → p.0 < cap → is_bare (byte_at s p) ≡ true → Raw s p 1
+  raw_bare : (p : Place) → p.0 < length s → p.0 < cap → in_set bare (byte_at s p) ≡ true → Raw s p 1
   raw_bare p h k e =
       let b = bare_is (byte_at s p) e in
       let q : p.0 + 1 - p.0 ≡ 1 = omega arith in
@@ -118,33 +127,27 @@ module _ (s : List ℕ) where
 
   -- as many of them as stand from a place on
   raw_bares : (p : Place) (m : ℕ) → p.0 + m ≤ length s → p.0 + m ≤ cap
-      → ((i : ℕ) → i < m → is_bare (byte_at s (on_by i p)) ≡ true) → Raw s p m
+      → ((i : ℕ) → i < m → in_set bare (byte_at s (on_by i p)) ≡ true) → Raw s p m
   raw_bares p zero h k on = raw_none p
   raw_bares p (suc m) h k on =
       let e : m + 1 ≡ suc m = omega arith in
       rw e at (raw_join p m 1 (raw_bares p m (omega arith) (omega arith) (λ i l. on i (omega arith)))
       (raw_bare (on_by m p) (omega arith) (omega arith) (on m (omega arith))))
 
-  -- where the bare ones end
-  pub bare_ends : (q end : ℕ) → (q ≤ bare_end s q end) × (bare_end s q end ≤ q + (end - q))
-  unfolding bare_end
-  bare_ends q end = (first_from _ (end - q) q, first_le _ (end - q) q)
-
   -- THE LAW of the fast way: behind r raw bytes, to where the bare ones end
-  pub raw_to : (p : Place) (q end : ℕ) → end ≤ length s → end ≤ cap → p.0 ≤ q → Raw s p (q - p.0) → Raw s p (bare_end s q end - p.0)
-  unfolding bare_end byte_at
-  raw_to p q end h k l a =
-      go (first test q (end - q)) (first_from test (end - q) q) (first_le test (end - q) q)
-      (λ j x y. not-false _ (none_before test (end - q) q j x y))
+  pub raw_to : (p q : Place) → p.0 ≤ q.0 → Raw s p (q.0 - p.0) → Raw s p ((run_end s bare q).0 - p.0)
+  unfolding run_end byte_at
+  raw_to p q l a =
+      let left = min (length s) cap - q.0 in
+      go (first (stops_at s bare) q.0 left) (first_from (stops_at s bare) left q.0) (first_le (stops_at s bare) left q.0)
+      (λ j x y. not-false _ (none_before (stops_at s bare) left q.0 j x y))
     where
-      test : ℕ → Bool
-      test j = not_bare s j
-
-      go : (m : ℕ) → q ≤ m → m ≤ q + (end - q) → ((j : ℕ) → q ≤ j → j < m → is_bare (get_or s j 0) ≡ true) → Raw s p (m - p.0)
-      go m x y bare =
-          split q m (λ z. let e : q ≡ m = omega arith in rw e at a) (λ z.
-          raw_then p q m l x a
-          (raw_bares (place q) (m - q) (omega arith) (omega arith) (λ i b. bare (q + i) (omega arith) (omega arith))))
+      go : (m : ℕ) → q.0 ≤ m → m ≤ q.0 + (min (length s) cap - q.0) → ((j : ℕ) → q.0 ≤ j → j < m → in_set bare (get_or s j 0) ≡ true)
+          → Raw s p (m - p.0)
+      go m x y on =
+          split q.0 m (λ z. let e : q.0 ≡ m = omega arith in rw e at a) (λ z.
+          raw_then p q.0 m l x a
+          (raw_bares q (m - q.0) (omega arith) (omega arith) (λ i b. on (q.0 + i) (omega arith) (omega arith))))
 
   -- and of a character that has more bytes than one
   pub raw_high : (p : Place) (q c : ℕ) (n : Place) → p.0 ≤ q → Raw s p (q - p.0)

@@ -1,13 +1,14 @@
 //! The string rule from behind the opening quote on.
-ghost use Rattle.std.specs.Prelude.{◌≡◌, ◌≤◌, length};
+ghost use Rattle.std.specs.Prelude.{◌≡◌, length};
 ghost use Rattle.strings.specs.Strings.{added, closed_by, string_literal};
 ghost use Rattle.strings.specs.inner.Checking.{verdict};
-ghost use Rattle.strings.specs.inner.Walking.{ascii_at, expected_at, Sound, Leads, is_bare, bare_end, Raw};
+ghost use Rattle.strings.specs.inner.Walking.{ascii_at, expected_at, Sound, Leads, Raw};
 
 use crate::checking::{passed, took};
 use crate::turns::turn_of;
 use crate::{Element, Inside, Literal, More, Seen, Turn};
 use answers::{Place, Position, Refusal};
+use chars::AsciiSet;
 
 // The character at a place, where one byte is all that it has. Most characters of an escape are read so.
 #[tactic(auto, unfolding(crate::specs::inner::Walking::ascii_at))]
@@ -59,43 +60,26 @@ pub(crate) fn element_at(text: &[u8], offset: u32, at: Place) -> Result<Element,
     }
 }
 
-// A byte that is a character by itself, and that a string holds as it stands.
-#[tactic(auto, unfolding(crate::specs::inner::Walking::is_bare, terms::specs::Terms::within))]
-fn is_bare(b: u8) -> bool
-    ensures { result ≡ is_bare b }
-{
-    matches!(b, 0x20..=0x7E) && b != 0x22 && b != 0x5C
-}
+// The bytes that are characters by themselves, and that a string holds as they stand: 0x20 to 0x7E without `"` and `\`.
+const BARE: AsciiSet = AsciiSet {
+    low: 0xFFFF_FFFB_0000_0000,
+    high: 0x7FFF_FFFF_EFFF_FFFF,
+};
 
-// The first of the places from, …, end - 1 that has no bare byte; else the end. The fast way over plain ASCII.
-fn bare_end(text: &[u8], from: usize, end: usize) -> usize
-    requires { end ≤ length text.now }
-    ensures { result ≡ bare_end text.now from end }
-{
-    for k in from..end {
-        if !is_bare(text[k]) {
-            return k;
-        }
-    }
-    from.max(end)
-}
-
-// How many bytes from a place on are characters that a string holds as they stand.
-fn raw_run(text: &[u8], at: Place) -> usize
+// How many bytes from a place on are characters that a string holds as they stand. Most are bare bytes, which are passed over at once.
+fn raw_run(text: &[u8], at: Place) -> u32
     ensures { Raw text.now at result }
 {
-    let end = chars::limit(text);
-    let start = at.0 as usize;
-    let mut k = start;
+    let mut next = at;
     loop {
-        k = bare_end(text, k, end);
-        if end <= k || text[k] < 0x80 {
-            return k - start;
+        next = chars::run_end(text, next, BARE);
+        if chars::byte_at(text, next) < 0x80 {
+            return next.0 - at.0;
         }
-        let Ok(Some((_, next))) = chars::read_at(text, Place(k as u32)) else {
-            return k - start;
+        let Ok(Some((_, behind))) = chars::read_at(text, next) else {
+            return next.0 - at.0;
         };
-        k = next.0 as usize;
+        next = behind;
     }
 }
 
@@ -138,8 +122,8 @@ pub fn expect_string_literal(
     loop {
         let run = raw_run(text, here);
         if 0 < run {
-            here = Place(here.0 + run as u32);
-            count += run as u32;
+            here = Place(here.0 + run);
+            count += run;
             seen = passed(seen);
         }
         match element_at(text, offset, here)? {

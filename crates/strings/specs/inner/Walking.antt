@@ -1,12 +1,12 @@
 -- How the walk of `gather` comes from one place to another: by a turn, by the turns of an escape, or by a run of raw characters. All is said in the terms of `gather` itself.
-use Rattle.std.specs.Prelude.{ℕ, ◌+◌, ◌-◌, ◌≤◌, ◌<◌, ◌≡◌, Bool, not, ◌&&◌, ◌||◌, List, ◌++◌, length, get_or, take, drop, eqb, Option, None, Some, Result, Ok, Err, if◌then◌else◌}
-use Rattle.terms.specs.Terms.{within, first}
+use Rattle.std.specs.Prelude.{ℕ, ◌+◌, ◌≤◌, ◌<◌, ◌≡◌, List, ◌++◌, length, take, drop, Option, None, Some, Result, Ok, Err, if◌then◌else◌}
 use Rattle.answers.specs.declared.Place.{Place}
 use Rattle.answers.specs.declared.Refusal.TheVariants.{IllFormed, UnexpectedEof}
 use Rattle.answers.specs.Places.{in_map}
 use Rattle.answers.specs.Caps.{cap}
 use Rattle.answers.specs.declared.Refusal.{Refusal}
 use Rattle.chars.specs.Utf8.{Read, byte_at, on_by}
+use Rattle.chars.specs.declared.AsciiSet.{AsciiSet}
 use Rattle.chars.specs.inner.Single.{single_at}
 use Rattle.chars.specs.View.{folded_at, folded_from}
 use Rattle.strings.specs.declared.Inside.{Inside}
@@ -67,17 +67,9 @@ Leads s o i p (Ok (Adds m n)) = Beyond s p n × Comes s o i p Plain (added m) n 
 Leads s o i p (Ok (Close n)) = Beyond s p n × ((h : List ℕ) → gather o i h (folded_from s p) ≡ bytes h (folded_from s n))
 Leads s o i p (Err f) = (h : List ℕ) → gather o i h (folded_from s p) ≡ refused f
 
--- A byte that is a character by itself, and that a string holds as it stands.
-unfoldable pub is_bare : ℕ → Bool
-is_bare b = within 0x20 0x7E b && not (eqb b 0x22 || eqb b 0x5C)
-
--- The byte at a place is none.
-abbrev pub not_bare : List ℕ → ℕ → Bool
-not_bare s j = not (is_bare (get_or s j 0))
-
--- The first of the places from, …, end - 1 whose byte is none; else the end.
-unfoldable pub bare_end : List ℕ → ℕ → ℕ → ℕ
-bare_end s from end = first (not_bare s) from (end - from)
+-- The bytes that are characters by themselves, and that a string holds as they stand: 0x20 to 0x7E without the quote and the backslash.
+abbrev pub bare : AsciiSet
+bare = record { low = 0xFFFFFFFB00000000; high = 0x7FFFFFFFEFFFFFFF }
 
 -- The r bytes from p on are raw characters: a string holds them as they stand.
 pub record Raw (s : List ℕ) (p : Place) (r : ℕ) : Type 0 where

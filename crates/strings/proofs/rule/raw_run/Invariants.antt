@@ -1,11 +1,10 @@
--- What lies between the start and k is raw characters.
+-- What lies between the start and the next place is raw characters.
 use Rattle.std.proofs.Common.{◌-◌, ◌≤◌, length}
-use Rattle.answers.specs.Places.{place}
 use Rattle.strings.specs.inner.Walking.{Raw}
 use Rattle.strings.proofs.rule.raw_run.Given as goal
 
-abbrev pub invariant-loop-k : goal.invariant-loop-k
-invariant-loop-k l = record { begun : l.start ≤ l.k; raw : Raw l.text (place l.start) (l.k - l.start) }
+abbrev pub invariant-loop-at : goal.invariant-loop-at
+invariant-loop-at l = record { begun : l.fn.at.0 ≤ l.next.0; raw : Raw l.text l.fn.at (l.next.0 - l.fn.at.0) }
 
-abbrev pub decreases-loop-k : goal.decreases-loop-k
-decreases-loop-k l = length l.text - l.k
+abbrev pub decreases-loop-at : goal.decreases-loop-at
+decreases-loop-at l = length l.text - l.next.0
