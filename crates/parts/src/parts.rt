@@ -27,18 +27,18 @@ fn letter_of(c: u32) -> Letter
 fn step_by(start: Position, part: Part, c: u32) -> Result<Part, Refusal>
     ensures { result ≡ step_by start c part (letter_of c) }
 {
-    match (part, letter_of(c)) {
-        (Part::First, Letter::Dash) => Err(Refusal::IdPartEmpty(start)),
-        (Part::Next, Letter::Dash) => Err(Refusal::IdPartEmpty(start)),
-        (_, Letter::Dash) => Ok(Part::Next),
-        (Part::First, Letter::Digit) => Err(Refusal::InvalidCharInId(start, c)),
-        (Part::Next, Letter::Digit) => Ok(Part::Digits),
-        (_, Letter::Digit) => Ok(part),
-        (Part::Lower, Letter::Upper) => Err(Refusal::InvalidCharInId(start, c)),
-        (_, Letter::Upper) => Ok(Part::Upper),
-        (Part::Upper, Letter::Lower) => Err(Refusal::InvalidCharInId(start, c)),
-        (_, Letter::Lower) => Ok(Part::Lower),
-        (_, Letter::Other) => Err(Refusal::InvalidCharInId(start, c)),
+    match (letter_of(c), part) {
+        (Letter::Dash, Part::First) => Err(Refusal::IdPartEmpty(start)),
+        (Letter::Dash, Part::Next) => Err(Refusal::IdPartEmpty(start)),
+        (Letter::Dash, _) => Ok(Part::Next),
+        (Letter::Digit, Part::First) => Err(Refusal::InvalidCharInId(start, c)),
+        (Letter::Digit, Part::Next) => Ok(Part::Digits),
+        (Letter::Digit, _) => Ok(part),
+        (Letter::Upper, Part::Lower) => Err(Refusal::InvalidCharInId(start, c)),
+        (Letter::Upper, _) => Ok(Part::Upper),
+        (Letter::Lower, Part::Upper) => Err(Refusal::InvalidCharInId(start, c)),
+        (Letter::Lower, _) => Ok(Part::Lower),
+        (Letter::Other, _) => Err(Refusal::InvalidCharInId(start, c)),
     }
 }
 
