@@ -1,2 +1,3 @@
--- One answer.
+-- A lemma, and one answer.
+pub mod Counted
 pub mod OneAnswer

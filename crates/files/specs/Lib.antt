@@ -1,2 +1,3 @@
--- The definition that the contract of `line_behind` cites.
+-- The definitions that the contracts cite.
+pub mod Arguments
 pub mod Lines

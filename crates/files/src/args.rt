@@ -1,0 +1,53 @@
+//! The program's arguments. They are bytes, and need not be text.
+ghost use Rattle.std.specs.Prelude.{◌≡◌, All, IfOk, IfSome};
+ghost use Rattle.files.specs.Arguments.{IsShort, bytes_of};
+
+use std::alloc::{AllocError, Global};
+use std::env::FillError;
+use std::rt::Env;
+
+/// One of the program's arguments.
+#[derive(Debug, Drop)]
+pub enum Argument {
+    Bytes(Vec<u8>),
+    /// Over 4,096 bytes, which no name of a file has.
+    TooLong,
+}
+
+impl Argument {
+    /// What can be compared with an option: nothing where the argument is too long.
+    pub fn as_bytes(&self) -> &[u8]
+        ensures { result.now ≡ bytes_of self.now }
+    {
+        match self {
+            Argument::Bytes(bytes) => bytes.as_slice(),
+            Argument::TooLong => &[],
+        }
+    }
+}
+
+// Argument i, counted with the program's name, which is the first.
+fn at_index(rt: &impl Env, alloc: Global, i: usize) -> Result<Option<Argument>, AllocError>
+    ensures { IfOk result (λ found. IfSome found IsShort) }
+{
+    let mut buffer = [0; 4096];
+    match rt.arg(i, &mut buffer) {
+        Ok(n) => Ok(Some(Argument::Bytes(buffer[..n].to_vec(alloc)?))),
+        Err(FillError::TooLong) => Ok(Some(Argument::TooLong)),
+        Err(FillError::NotPresent) => Ok(None),
+    }
+}
+
+/// The arguments behind the program's name.
+pub fn arguments(rt: &impl Env, alloc: Global) -> Result<Vec<Argument>, AllocError>
+    ensures { IfOk result (λ all. All IsShort all.items) }
+{
+    let mut all = Vec::new(alloc);
+    for i in 1..usize::MAX {
+        let Some(found) = at_index(rt, alloc, i)? else {
+            break;
+        };
+        all.push(found)?;
+    }
+    Ok(all)
+}
