@@ -1,92 +1,111 @@
-//! A proposed order, read and checked against a list.
-use crate::{building, names, proposed, reading, saying, sorting};
-use answers::{Refusal, Verdict};
-use std::io::Stdout;
+//! A proposed order, checked against a list. What is wrong with it is said by the names of its items.
+use crate::lists;
+use crate::lists::List;
+use crate::sheet::Sheet;
+use crate::sorting::refuse;
+use crate::words::Word;
+use crate::wrong::{Wrong, place};
+use answers::Refusal;
+use files::{InNumbers, InWords, Source};
+use std::alloc::{AllocError, Global};
+use std::io;
+use std::io::Write;
 
-fn print_good(to: Stdout, name: &[u8], items: u32) {
-    saying::file(to, name)
-        .text(b" a load order of ")
-        .number(items as u64)
-        .text(b" items\n")
-        .flush();
+// Of an order of more names the first 257 tell what is wrong: there are 256 items at most.
+const MOST: usize = 257;
+
+fn contains(names: &[Word], name: &[u8]) -> bool {
+    names.iter().any(|word| word.bytes == name)
 }
 
-// 33 is about the order, the other refusals are about the list.
-fn print_refusal(
-    to: Stdout,
-    order_name: &[u8],
-    order: &[u8],
-    rows: &[u32],
-    name: &[u8],
-    text: &[u8],
-    sheet: &[u32],
-    items: u32,
-    list: &[u32],
+// The index of the item of each name; the number of items where it names none.
+fn indices(alloc: Global, list: &List, names: &[Word]) -> Result<Vec<u32>, AllocError> {
+    let none = list.items.len();
+    names
+        .iter()
+        .map(|word| u32::try_from(list.index_of(word.bytes).unwrap_or(none)).unwrap_or(u32::MAX))
+        .collect(alloc)
+}
+
+// The list goes on where the order ends.
+fn print_short(
+    out: &mut impl Write,
+    file: &[u8],
+    order: &[Word],
+    list: &List,
     refusal: Refusal,
-) {
-    let told = refusal.numbers();
-    if told.number == 33 {
-        proposed::print_fault(to, order_name, order, rows, text, sheet, items, list, told);
-        return;
+) -> io::Result<()> {
+    out.write_all(file)?;
+    write!(out, ": {}: it ends without ", InWords(refusal))?;
+    let lacking = list
+        .items
+        .iter()
+        .find(|item| !contains(order, item.name.bytes));
+    if let Some(item) = lacking {
+        out.write_all(item.name.bytes)?;
     }
-    sorting::print_refusal(to, name, text, sheet, items, refusal, 0);
+    writeln!(out, " {}", InNumbers(refusal))
 }
 
-fn check(
-    to: Stdout,
-    order_name: &[u8],
-    order: &[u8],
-    rows: &[u32],
-    name: &[u8],
-    text: &[u8],
-    sheet: &[u32],
-    items: u32,
-    list: &mut [u32],
-) {
-    names::fill(list, text, sheet, items, order, rows);
-    match planner::check_order(sheet, text, list) {
-        Verdict::Accepted => print_good(to, order_name, items),
-        Verdict::Refused(refusal) => print_refusal(
-            to, order_name, order, rows, name, text, sheet, items, list, refusal,
-        ),
+// A name that is no item or comes again, or an item whose dependency does not stand before it.
+fn print_fault(out: &mut impl Write, before: &[Word], word: Word, list: &List) -> io::Result<()> {
+    let Some(item) = list.items.iter().find(|item| item.name.bytes == word.bytes) else {
+        return write!(out, " is no item of the list");
+    };
+    if contains(before, word.bytes) {
+        return write!(out, " comes again");
     }
+    write!(out, " needs ")?;
+    if let Some(need) = item.needs.iter().find(|need| !contains(before, need.bytes)) {
+        out.write_all(need.bytes)?;
+    }
+    write!(out, ", which does not stand before it")
 }
 
-// Of a list of more than 257 names the first 257 tell what is wrong: there are 256 items at most.
-fn shortened(names: u32) -> usize {
-    if names < 257 { names as usize } else { 257 }
+// The first fault of an order is at an index of it.
+fn print_wrong(
+    out: &mut impl Write,
+    file: &[u8],
+    order: &[Word],
+    list: &List,
+    refusal: Refusal,
+    index: usize,
+) -> io::Result<()> {
+    let Some(word) = order.get(index) else {
+        return print_short(out, file, order, list, refusal);
+    };
+    place(out, file, word.line)?;
+    write!(out, "{}: ", InWords(refusal))?;
+    out.write_all(word.bytes)?;
+    print_fault(out, &order[..index], *word, list)?;
+    writeln!(out, " {}", InNumbers(refusal))
 }
 
-pub(crate) fn print(to: Stdout, order_name: &[u8], order: &[u8], name: &[u8], text: &[u8]) {
-    let mut rows = [0u32; 1033];
-    let listed = reading::read(order, true, &mut rows, &mut []);
-    if listed.fault > 0 {
-        saying::print_fault(to, order_name, listed.line, listed.fault);
-        return;
+/// Says whether an order is a load order of a list.
+pub fn check<'a>(
+    alloc: Global,
+    out: &mut impl Write,
+    order: &Source<'a>,
+    source: &Source<'a>,
+) -> Result<(), Wrong<'a>> {
+    let names = lists::order(alloc, order.name, order.text.as_slice())?;
+    let list = List::read(alloc, source.name, source.text.as_slice())?;
+    let sheet = Sheet::new(alloc, list.items.as_slice())?;
+    let first = &names.as_slice()[..names.len().min(MOST)];
+    let proposed = indices(alloc, &list, first)?;
+    match planner::check_order(
+        sheet.words.as_slice(),
+        sheet.names.as_slice(),
+        proposed.as_slice(),
+    ) {
+        Ok(()) => {
+            out.write_all(order.name)?;
+            Ok(writeln!(out, ": a load order of {} items", list.items.len())?)
+        }
+        // 33 is about the order, the other refusals are about the list.
+        Err(refusal @ Refusal::NotAnOrder(index)) => {
+            Ok(print_wrong(out, order.name, first, &list, refusal, index as usize)?)
+        }
+        Err(refusal) => refuse(out, source.name, &list, refusal, 0),
     }
-    let mut words = [0u32; 9221];
-    let built = building::build(to, name, text, &mut words);
-    if !built.ok {
-        return;
-    }
-    let count = built.words;
-    let length = shortened(listed.items);
-    let mut list = [0u32; 257];
-    if words.len() < count {
-        return;
-    }
-    if list.len() < length {
-        return;
-    }
-    check(
-        to,
-        order_name,
-        order,
-        &rows,
-        name,
-        text,
-        &words[0..count],
-        built.items,
-        &mut list[0..length],
-    );
 }

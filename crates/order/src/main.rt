@@ -2,66 +2,57 @@
 //! hands it over; with --check what is wrong with such an order.
 #![tactic(auto)]
 
-mod building;
 mod checking;
-mod names;
+mod lists;
 mod options;
-mod proposed;
-mod reading;
-mod saying;
 mod sheet;
 mod sorting;
 mod words;
+mod wrong;
 
 use options::Task;
-use std::io::Stdout;
+use std::alloc::Global;
+use std::io;
+use std::io::{BufWriter, Write};
 use std::rt::{Env, Files};
+use wrong::Wrong;
 
-fn sort(rt: &(impl Env + Files), to: Stdout, file: usize, task: Task) {
-    let mut name = [0u8; 4096];
-    let mut text = [0u8; 65537];
-    let loaded = files::load(rt, to, file, &mut name, &mut text);
-    if !loaded.ok {
-        return;
-    }
-    let n = loaded.name;
-    let length = loaded.text;
-    sorting::print(to, &name[0..n], &text[0..length], task);
-}
-
-fn check(rt: &(impl Env + Files), to: Stdout, order: usize, file: usize) {
-    let mut order_name = [0u8; 4096];
-    let mut order_text = [0u8; 65537];
-    let proposed = files::load(rt, to, order, &mut order_name, &mut order_text);
-    if !proposed.ok {
-        return;
-    }
-    let mut name = [0u8; 4096];
-    let mut text = [0u8; 65537];
-    let loaded = files::load(rt, to, file, &mut name, &mut text);
-    if !loaded.ok {
-        return;
-    }
-    let p = proposed.name;
-    let order_length = proposed.text;
-    let n = loaded.name;
-    let length = loaded.text;
-    checking::print(
-        to,
-        &order_name[0..p],
-        &order_text[0..order_length],
-        &name[0..n],
-        &text[0..length],
-    );
-}
-
-fn main(rt: HostRuntime) {
-    let to = rt.stdout();
-    let task = options::asked(&rt);
+fn answer<'a>(
+    rt: &impl Files,
+    alloc: Global,
+    out: &mut impl Write,
+    task: Task<'a>,
+) -> Result<(), Wrong<'a>> {
     match task {
-        Task::Help => options::print_usage(to),
-        Task::Sort => sort(&rt, to, 1, task),
-        Task::Propose => sort(&rt, to, 2, task),
-        Task::Check => check(&rt, to, 2, 3),
+        Task::Help => Ok(out.write_all(options::USAGE.as_bytes())?),
+        Task::Sort(file) => {
+            let source = files::load(rt, alloc, file)?;
+            let settled = sorting::print(alloc, out, &source, clerk::toposort)?;
+            Ok(writeln!(out, "settled {settled}")?)
+        }
+        Task::Propose(file) => {
+            let source = files::load(rt, alloc, file)?;
+            sorting::print(alloc, out, &source, planner::propose)?;
+            Ok(())
+        }
+        Task::Check { order, file } => {
+            let order = files::load(rt, alloc, order)?;
+            checking::check(alloc, out, &order, &files::load(rt, alloc, file)?)
+        }
     }
+}
+
+// What is wrong is said in place of the answer.
+fn run(rt: &(impl Env + Files + Print), alloc: Global) -> io::Result<()> {
+    let arguments = files::arguments(rt, alloc)?;
+    let mut out = BufWriter::new(alloc, io::writer(rt))?;
+    if let Err(wrong) = answer(rt, alloc, &mut out, Task::from(arguments.as_slice())) {
+        wrong.say(&mut out)?;
+    }
+    out.flush()
+}
+
+// There is no one to tell where memory runs out or standard output takes no more: the exit status says nothing.
+fn main(rt: HostRuntime) {
+    let _ = run(&rt, rt.alloc());
 }

@@ -1,61 +1,44 @@
 //! What the arguments ask for.
-use std::io::Stdout;
-use std::rt::Env;
+use files::Argument;
+
+pub const USAGE: &str = "\
+    usage: order FILE\n\
+    \x20      order --propose FILE\n\
+    \x20      order --check ORDER FILE\n\
+    Prints the load order of the items of a list, one a line, and how many dependencies it settles.\n\
+    The list has an item a line: its name, a colon, and the names of what it needs, with blanks between.\n\
+    A # starts a comment. A name is any bytes but blanks, colons and #.\n\
+    \x20 --propose  prints the order alone, as --check takes one\n\
+    \x20 --check    says whether the file ORDER, names with blanks or newlines between, is a load order of the list, whoever made it\n\
+    The exit status says nothing. What is wrong is said in place of the order, as\n\
+    \x20 FILE:LINE: what is wrong (number, position, detail)\n\
+    ";
 
 #[derive(Clone, Copy)]
-pub enum Task {
-    Sort,
-    Propose,
-    Check,
+pub enum Task<'a> {
+    Sort(&'a Argument),
+    Propose(&'a Argument),
+    Check {
+        order: &'a Argument,
+        file: &'a Argument,
+    },
     Help,
 }
 
-pub(crate) fn print_usage(to: Stdout) {
-    files::output(to)
-        .text(
-            b"\
-            usage: order FILE\n\
-            \x20      order --propose FILE\n\
-            \x20      order --check ORDER FILE\n\
-            Prints the load order of the items of a list, one a line, and how many dependencies it settles.\n\
-            The list has an item a line: its name, a colon, and the names of what it needs, with blanks between.\n\
-            A # starts a comment. A name is any bytes but blanks, colons and #.\n\
-            \x20 --propose  prints the order alone, as --check takes one\n\
-            \x20 --check    says whether the file ORDER, names with blanks or newlines between, is a load order of the list, whoever made it\n\
-            The exit status says nothing. What is wrong is said in place of the order, as\n\
-            \x20 FILE:LINE: what is wrong (number, position, detail)\n\
-            ",
-        )
-        .flush();
+impl<'a> From<&'a [Argument]> for Task<'a> {
+    fn from(arguments: &'a [Argument]) -> Task<'a> {
+        match arguments {
+            [file] if !is_option(file.as_bytes()) => Task::Sort(file),
+            [option, file] if option.as_bytes() == b"--propose".as_slice() => Task::Propose(file),
+            [option, order, file] if option.as_bytes() == b"--check".as_slice() => Task::Check {
+                order,
+                file,
+            },
+            _ => Task::Help,
+        }
+    }
 }
 
-// Sort: an argument that does not look like an option.
-fn task_of(word: &[u8], count: usize) -> Task {
-    if terms::same(word, b"--propose") {
-        if count == 3 {
-            return Task::Propose;
-        }
-        return Task::Help;
-    }
-    if terms::same(word, b"--check") {
-        if count == 4 {
-            return Task::Check;
-        }
-        return Task::Help;
-    }
-    if count != 2 {
-        return Task::Help;
-    }
-    if word.len() > 1 {
-        if word[0] == b'-' {
-            return Task::Help;
-        }
-    }
-    Task::Sort
-}
-
-pub(crate) fn asked(rt: &impl Env) -> Task {
-    let mut buffer = [0u8; 4096];
-    let n = files::argument(rt, 1, &mut buffer);
-    task_of(&buffer[0..n], files::argument_count(rt))
+fn is_option(word: &[u8]) -> bool {
+    word.len() > 1 && word[0] == b'-'
 }

@@ -1,71 +1,61 @@
-//! The words of a dependency sheet: a header of five, then rows of four, of the items first and of what they need behind them.
-ghost use Rattle.std.specs.Prelude.{◌≤◌};
+//! The dependency sheet of a list: a header of five words, then rows of four, of the items first and of what they need behind them.
+use crate::lists::Item;
+use crate::words::Word;
+use std::alloc::{AllocError, Global};
 
-// Word k of row r.
-fn at(r: u32, k: u32) -> usize {
-    5 + 4 * r as usize + k as usize
+/// The words of a sheet, and its names.
+#[derive(Debug, Drop)]
+pub struct Sheet {
+    pub words: Vec<u32>,
+    pub names: Vec<u8>,
 }
 
-fn get(words: &[u32], i: usize) -> u32 {
-    if i < words.len() { words[i] } else { 0 }
+// A list has at most 65,536 bytes, so no count is cut.
+fn number(count: usize) -> u32 {
+    u32::try_from(count).unwrap_or(u32::MAX)
 }
 
-// Past the end nothing is kept: a list with too many items is counted to its end all the same.
-fn put(words: &mut [u32], i: usize, w: u32) {
-    if i < words.len() {
-        words[i] = w;
-    }
+// Puts a name behind the others. What comes back is where it starts, and its length.
+fn lay(names: &mut Vec<u8>, word: Word) -> Result<(u32, u32), AllocError> {
+    let start = number(names.len());
+    names.extend_from_slice(word.bytes)?;
+    Ok((start, number(word.bytes.len())))
 }
 
-pub(crate) fn word(sheet: &[u32], r: u32, k: u32) -> u32 {
-    get(sheet, at(r, k))
+// How many items and dependencies there are; and where the rows of each start, and end.
+fn header(items: u32, needs: u32) -> [u32; 5] {
+    let first_need = items.saturating_mul(4).saturating_add(5);
+    let end = needs.saturating_mul(4).saturating_add(first_need);
+    [items, needs, 5, first_need, end]
 }
 
-// A row: where its name starts in the names, the name's length, and two words more.
-pub(crate) fn put_row(sheet: &mut [u32], r: u32, place: u32, length: u32, third: u32, fourth: u32) {
-    put(sheet, at(r, 0), place);
-    put(sheet, at(r, 1), length);
-    put(sheet, at(r, 2), third);
-    put(sheet, at(r, 3), fourth);
-}
-
-// One dependency more in the row of an item.
-pub(crate) fn count_need(sheet: &mut [u32], item: u32) {
-    let count = std::num::wrapping_add_u32(word(sheet, item, 3), 1);
-    put(sheet, at(item, 3), count);
-}
-
-// How many words a sheet has.
-pub(crate) fn words(items: u32, needs: u32) -> u32
-    requires bound { items ≤ 256 }
-    requires needs_bound { needs ≤ 2048 }
-{
-    5 + 4 * items + 4 * needs
-}
-
-pub(crate) fn put_header(sheet: &mut [u32], items: u32, needs: u32)
-    requires bound { items ≤ 256 }
-    requires needs_bound { needs ≤ 2048 }
-{
-    put(sheet, 0, items);
-    put(sheet, 1, needs);
-    put(sheet, 2, 5);
-    put(sheet, 3, words(items, 0));
-    put(sheet, 4, words(items, needs));
-}
-
-// The rows of what is needed, from a table of their own to their place behind the items.
-pub(crate) fn append(sheet: &mut [u32], items: u32, needs: u32, table: &[u32]) {
-    let mut r = 0;
-    while r < needs {
-        put_row(
-            sheet,
-            std::num::wrapping_add_u32(items, r),
-            word(table, r, 0),
-            word(table, r, 1),
-            word(table, r, 2),
-            word(table, r, 3),
-        );
-        r += 1;
+impl Sheet {
+    /// The sheet of these items.
+    pub fn new(alloc: Global, items: &[Item<'_>]) -> Result<Sheet, AllocError> {
+        let mut names = Vec::new(alloc);
+        let mut item_rows = Vec::new(alloc);
+        let mut need_rows = Vec::new(alloc);
+        for item in items {
+            let (start, length) = lay(&mut names, item.name)?;
+            item_rows.push([
+                start,
+                length,
+                number(need_rows.len()),
+                number(item.needs.len()),
+            ])?;
+            for need in &item.needs {
+                let (start, length) = lay(&mut names, *need)?;
+                need_rows.push([start, length, start, start])?;
+            }
+        }
+        let header = header(number(item_rows.len()), number(need_rows.len()));
+        let mut words = header.to_vec(alloc)?;
+        for row in &item_rows {
+            words.extend_from_slice(row)?;
+        }
+        for row in &need_rows {
+            words.extend_from_slice(row)?;
+        }
+        Ok(Sheet { words, names })
     }
 }

@@ -1,84 +1,88 @@
 //! The order that the clerk gives, or that our proposer offers, or what is wrong.
-use crate::options::Task;
-use crate::{building, saying};
-use answers::{Refusal, Verdict};
+use crate::lists::List;
+use crate::sheet::Sheet;
+use crate::wrong::{Wrong, place};
+use answers::Refusal;
 use clerk::Sorted;
-use std::io::Stdout;
+use files::{InNumbers, InWords, Source};
+use std::alloc::Global;
+use std::io;
+use std::io::Write;
 
 // The items by their names.
-fn print_order(to: Stdout, text: &[u8], sheet: &[u32], order: &[u32], items: u32) {
-    let mut out = files::output(to);
-    let mut i = 0;
-    while i < order.len() {
-        if items as usize <= i {
-            break;
+fn print_order(out: &mut impl Write, list: &List, order: &[u32]) -> io::Result<()> {
+    for &index in order.iter().take(list.items.len()) {
+        if let Some(item) = list.items.get(index as usize) {
+            out.write_all(item.name.bytes)?;
+            writeln!(out)?;
         }
-        out = saying::name_of(out, text, sheet, order[i]).line();
-        i += 1;
     }
-    out.flush();
+    Ok(())
 }
 
-// How many dependencies the order settles; an order that is handed over is names alone.
-fn print_settled(to: Stdout, task: Task, settled: u32) {
-    if let Task::Sort = task {
-        files::output(to)
-            .text(b"settled ")
-            .number(settled as u64)
-            .line()
-            .flush();
+// The dependency that an item is refused for.
+fn print_need(
+    out: &mut impl Write,
+    file: &[u8],
+    list: &List,
+    index: u32,
+    refusal: Refusal,
+) -> io::Result<()> {
+    if let Some((item, need)) = list.need(index as usize) {
+        place(out, file, need.line)?;
+        write!(out, "{}: ", InWords(refusal))?;
+        out.write_all(item.name.bytes)?;
+        write!(out, " needs ")?;
+        out.write_all(need.bytes)?;
     }
+    Ok(())
 }
 
-pub(crate) fn print_refusal(
-    to: Stdout,
-    name: &[u8],
-    text: &[u8],
-    sheet: &[u32],
-    items: u32,
+/// What is wrong with the sheet of a list, at the item or the dependency that it is about.
+pub fn refuse<'a>(
+    out: &mut impl Write,
+    file: &'a [u8],
+    list: &List,
     refusal: Refusal,
     settled: u32,
-) {
-    let told = refusal.numbers();
-    let number = told.number;
-    match number {
-        28 => saying::print_item(to, name, text, sheet, told),
-        29 => saying::print_unknown(to, name, text, sheet, items, told),
-        30 => saying::print_circle(to, name, text, sheet, items, told, settled),
-        _ => saying::print_plain(to, name, told),
-    }
-}
-
-fn sorted_by(task: Task, sheet: &[u32], names: &[u8], order: &mut [u32]) -> Sorted {
-    if let Task::Propose = task {
-        return planner::propose(sheet, names, order);
-    }
-    clerk::toposort(sheet, names, order)
-}
-
-fn print_sorted(to: Stdout, name: &[u8], text: &[u8], sheet: &[u32], items: u32, task: Task) {
-    let mut order = [0u32; 256];
-    let sorted = sorted_by(task, sheet, text, &mut order);
-    let settled = sorted.settled;
-    let verdict = sorted.verdict;
-    match verdict {
-        Verdict::Refused(refusal) => print_refusal(to, name, text, sheet, items, refusal, settled),
-        Verdict::Accepted => {
-            print_order(to, text, sheet, &order, items);
-            print_settled(to, task, settled);
+) -> Result<(), Wrong<'a>> {
+    match refusal {
+        Refusal::RepeatedName(index) => {
+            if let Some(item) = list.items.get(index as usize) {
+                place(out, file, item.name.line)?;
+                write!(out, "{}: ", InWords(refusal))?;
+                out.write_all(item.name.bytes)?;
+            }
         }
+        Refusal::ItemNotFound(index) => print_need(out, file, list, index, refusal)?,
+        // The first dependency that could not be settled and whose item could not be placed; it need not lie on the circle itself.
+        Refusal::TypeCycle(index) => {
+            print_need(out, file, list, index, refusal)?;
+            write!(out, ", which cannot be placed; settled {settled}")?;
+        }
+        _ => return Err(Wrong::Whole { file, refusal }),
     }
+    Ok(writeln!(out, " {}", InNumbers(refusal))?)
 }
 
-pub(crate) fn print(to: Stdout, name: &[u8], text: &[u8], task: Task) {
-    let mut words = [0u32; 9221];
-    let built = building::build(to, name, text, &mut words);
-    if !built.ok {
-        return;
+/// Prints the order that a planner gives. What comes back is how many dependencies it settles.
+pub fn print<'a, P>(
+    alloc: Global,
+    out: &mut impl Write,
+    source: &Source<'a>,
+    planner: P,
+) -> Result<u32, Wrong<'a>>
+where
+    P: FnOnce(&[u32], &[u8], &mut [u32]) -> Sorted,
+    requires { P.IsAlwaysCallable planner }
+{
+    let list = List::read(alloc, source.name, source.text.as_slice())?;
+    let sheet = Sheet::new(alloc, list.items.as_slice())?;
+    let mut order = [0; 256];
+    let sorted = planner(sheet.words.as_slice(), sheet.names.as_slice(), &mut order);
+    match sorted.verdict {
+        Ok(()) => print_order(out, &list, &order)?,
+        Err(refusal) => refuse(out, source.name, &list, refusal, sorted.settled)?,
     }
-    let count = built.words;
-    if words.len() < count {
-        return;
-    }
-    print_sorted(to, name, text, &words[0..count], built.items, task);
+    Ok(sorted.settled)
 }

@@ -1,71 +1,41 @@
-//! The words of a list: names, and what stands between them.
+//! The names in a text, line by line. A text need not be UTF-8.
+use std::alloc::{AllocError, Global};
 
-#[derive(Drop)]
-pub enum Mark {
-    Blank,
-    Comment,
-    Newline,
-    Colon,
-    Name,
+/// A line of a text, without its comment, and its number.
+#[derive(Clone, Copy, Debug)]
+pub struct Line<'t> {
+    pub bytes: &'t [u8],
+    pub number: usize,
 }
 
-// A word's mark, and the place behind it.
-#[derive(Drop)]
-pub struct Word {
-    pub mark: Mark,
-    pub end: u32,
+/// A name, and the number of its line.
+#[derive(Clone, Copy, Debug)]
+pub struct Word<'t> {
+    pub bytes: &'t [u8],
+    pub line: usize,
 }
 
-// Past the end a newline stands, so that the last line ends as the others do.
-fn byte_at(text: &[u8], at: u32) -> u8 {
-    let i = at as usize;
-    if i < text.len() { text[i] } else { b'\n' }
+fn without_comment(line: &[u8]) -> &[u8] {
+    line.split(|&b| b == b'#').next().unwrap_or(line)
 }
 
-fn mark_of(b: u8) -> Mark {
-    match b {
-        b' ' | b'\t' | b'\r' => Mark::Blank,
-        b'#' => Mark::Comment,
-        b'\n' => Mark::Newline,
-        b':' => Mark::Colon,
-        _ => Mark::Name,
+/// Lines are counted from 1.
+pub fn lines(alloc: Global, text: &[u8]) -> Result<Vec<Line<'_>>, AllocError> {
+    let mut lines = Vec::new(alloc);
+    for (number, line) in (1..).zip(text.split(|&b| b == b'\n')) {
+        let bytes = without_comment(line);
+        lines.push(Line { bytes, number })?;
     }
+    Ok(lines)
 }
 
-// A comment goes on up to the newline, a name up to any other mark.
-fn goes_on(b: u8, is_comment: bool) -> bool {
-    match mark_of(b) {
-        Mark::Newline => false,
-        Mark::Name => true,
-        _ => is_comment,
-    }
-}
-
-fn run_end(text: &[u8], from: u32, is_comment: bool) -> u32 {
-    let mut end = from;
-    while end < 65536 {
-        if !goes_on(byte_at(text, end), is_comment) {
-            break;
+/// The names that stand in a part of a line, with blanks between.
+pub fn words(alloc: Global, part: &[u8], line: usize) -> Result<Vec<Word<'_>>, AllocError> {
+    let mut words = Vec::new(alloc);
+    for bytes in part.split(|&b| matches!(b, b' ' | b'\t' | b'\r')) {
+        if !bytes.is_empty() {
+            words.push(Word { bytes, line })?;
         }
-        end += 1;
     }
-    end
-}
-
-pub(crate) fn word_at(text: &[u8], at: u32) -> Word {
-    let behind = std::num::wrapping_add_u32(at, 1);
-    match mark_of(byte_at(text, at)) {
-        Mark::Comment => Word {
-            mark: Mark::Comment,
-            end: run_end(text, behind, true),
-        },
-        Mark::Name => Word {
-            mark: Mark::Name,
-            end: run_end(text, behind, false),
-        },
-        other => Word {
-            mark: other,
-            end: behind,
-        },
-    }
+    Ok(words)
 }

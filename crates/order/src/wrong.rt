@@ -1,0 +1,92 @@
+//! What is wrong with the files that are asked about.
+use answers::Refusal;
+use files::{Complaint, InNumbers, InWords};
+use std::alloc::{AllocError, AllocFailed};
+use std::io::Write;
+use std::{fmt, io};
+
+/// What is wrong with a line that is no item and what it needs, or, in an order, no names.
+#[derive(Clone, Copy, Debug, PartialEq, Eq)]
+pub enum Fault {
+    NoName,
+    NoColon,
+    SecondColon,
+    ColonInOrder,
+}
+
+impl fmt::Display for Fault {
+    fn fmt<W: fmt::Write>(&self, f: &mut fmt::Formatter<W>) -> fmt::Result {
+        f.write_str(match self {
+            Fault::NoName => "a colon with no name before it",
+            Fault::NoColon => "a name with no colon behind it",
+            Fault::SecondColon => "a second colon",
+            Fault::ColonInOrder => "a colon, where an order has names alone",
+        })
+    }
+}
+
+/// The file and the line, before what is wrong there.
+pub fn place(out: &mut impl Write, file: &[u8], line: usize) -> io::Result<()> {
+    out.write_all(file)?;
+    write!(out, ":{line}: ")
+}
+
+/// Why there is no answer.
+#[derive(Clone, Copy, Debug)]
+pub enum Wrong<'a> {
+    File(Complaint<'a>),
+    Line {
+        file: &'a [u8],
+        line: usize,
+        fault: Fault,
+    },
+    /// What no line of the file is the place of.
+    Whole {
+        file: &'a [u8],
+        refusal: Refusal,
+    },
+    /// Memory ran out, or standard output takes no more.
+    Lost(io::Error),
+}
+
+impl<'a> From<Complaint<'a>> for Wrong<'a> {
+    fn from(complaint: Complaint<'a>) -> Wrong<'a> {
+        Wrong::File(complaint)
+    }
+}
+
+impl From<io::Error> for Wrong<'_> {
+    fn from(error: io::Error) -> Self {
+        Wrong::Lost(error)
+    }
+}
+
+impl From<AllocError> for Wrong<'_> {
+    fn from(error: AllocError) -> Self {
+        Wrong::Lost(io::Error::from(error))
+    }
+}
+
+impl<T: Drop> From<AllocFailed<T>> for Wrong<'_> {
+    fn from(error: AllocFailed<T>) -> Self {
+        Wrong::Lost(io::Error::from(error))
+    }
+}
+
+impl Wrong<'_> {
+    /// Says it in one line.
+    pub fn say(self, out: &mut impl Write) -> io::Result<()> {
+        match self {
+            Wrong::File(complaint) => complaint.say(out),
+            Wrong::Line { file, line, fault } => {
+                place(out, file, line)?;
+                writeln!(out, "{fault}")
+            }
+            Wrong::Whole { file, refusal } => {
+                out.write_all(file)?;
+                writeln!(out, ": {} {}", InWords(refusal), InNumbers(refusal))
+            }
+            Wrong::Lost(error) => Err(error),
+        }
+    }
+}
