@@ -1,25 +1,74 @@
-//! The kinds by their names in lex.rs, in the order of their numbers, with blanks behind each up to one width.
-use files::Out;
+//! The kinds by their names in lex.rs.
 use kinds::Token;
 
-pub(crate) fn name_of(out: Out, kind: Token) -> Out {
-    out.entry(
-        b"\
-        Whitespace    \nComment       \nEquals        \nComma         \nColon         \n\
-        Period        \nSemicolon     \nLeftParen     \nRightParen    \nLeftBrace     \n\
-        RightBrace    \nLessThan      \nGreaterThan   \nRArrow        \nStar          \n\
-        At            \nSlash         \nPlus          \nMinus         \nStringLiteral \n\
-        Use           \nType          \nFunc          \nU8            \nU16           \n\
-        U32           \nU64           \nS8            \nS16           \nS32           \n\
-        S64           \nF32           \nF64           \nChar          \nRecord        \n\
-        Resource      \nOwn           \nBorrow        \nFlags         \nVariant       \n\
-        Enum          \nBool          \nString_       \nOption_       \nResult_       \n\
-        Future        \nStream        \nErrorContext  \nList          \nMap           \n\
-        Underscore    \nAs            \nFrom_         \nStatic        \nInterface     \n\
-        Tuple         \nImport        \nExport        \nWorld         \nPackage       \n\
-        Constructor   \nAsync         \nId            \nExplicitId    \nInteger       \n\
-        Include       \nWith          \n\
-        ",
-        kind.kind() as u32,
-    )
+pub fn name_of(kind: Token) -> &'static str {
+    match kind {
+        Token::Whitespace => "Whitespace",
+        Token::Comment => "Comment",
+        Token::Equals => "Equals",
+        Token::Comma => "Comma",
+        Token::Colon => "Colon",
+        Token::Period => "Period",
+        Token::Semicolon => "Semicolon",
+        Token::LeftParen => "LeftParen",
+        Token::RightParen => "RightParen",
+        Token::LeftBrace => "LeftBrace",
+        Token::RightBrace => "RightBrace",
+        Token::LessThan => "LessThan",
+        Token::GreaterThan => "GreaterThan",
+        Token::RArrow => "RArrow",
+        Token::Star => "Star",
+        Token::At => "At",
+        Token::Slash => "Slash",
+        Token::Plus => "Plus",
+        Token::Minus => "Minus",
+        Token::StringLiteral => "StringLiteral",
+        Token::Use => "Use",
+        Token::Type => "Type",
+        Token::Func => "Func",
+        Token::U8 => "U8",
+        Token::U16 => "U16",
+        Token::U32 => "U32",
+        Token::U64 => "U64",
+        Token::S8 => "S8",
+        Token::S16 => "S16",
+        Token::S32 => "S32",
+        Token::S64 => "S64",
+        Token::F32 => "F32",
+        Token::F64 => "F64",
+        Token::Char => "Char",
+        Token::Record => "Record",
+        Token::Resource => "Resource",
+        Token::Own => "Own",
+        Token::Borrow => "Borrow",
+        Token::Flags => "Flags",
+        Token::Variant => "Variant",
+        Token::Enum => "Enum",
+        Token::Bool => "Bool",
+        Token::String_ => "String_",
+        Token::Option_ => "Option_",
+        Token::Result_ => "Result_",
+        Token::Future => "Future",
+        Token::Stream => "Stream",
+        Token::ErrorContext => "ErrorContext",
+        Token::List => "List",
+        Token::Map => "Map",
+        Token::Underscore => "Underscore",
+        Token::As => "As",
+        Token::From_ => "From_",
+        Token::Static => "Static",
+        Token::Interface => "Interface",
+        Token::Tuple => "Tuple",
+        Token::Import => "Import",
+        Token::Export => "Export",
+        Token::World => "World",
+        Token::Package => "Package",
+        Token::Constructor => "Constructor",
+        Token::Async => "Async",
+        Token::Id => "Id",
+        Token::ExplicitId => "ExplicitId",
+        Token::Integer => "Integer",
+        Token::Include => "Include",
+        Token::With => "With",
+    }
 }

@@ -1,95 +1,82 @@
-//! The line of a place: where it starts and ends, and the column of the place in it.
-use answers::Place;
-use chars::Read;
-use files::Out;
+//! The line of a place.
+ghost use Rattle.std.specs.Prelude.{◌≤◌, length};
 
-const CAP: u32 = 65536;
+use std::fmt;
 
-// Where the text starts for people: behind a byte order mark.
-fn text_start(text: &[u8]) -> u32 {
-    match chars::read_at(text, Place(0)) {
-        Read::Char(c, next) => {
-            if c == 0xFEFF {
-                return next.0;
-            }
-            0
-        }
-        Read::Ill(_) => 0,
-        Read::End => 0,
-    }
+const BYTE_ORDER_MARK: &[u8] = b"\xEF\xBB\xBF";
+
+/// The line that a place stands in, without its end, and what stands there before the place.
+#[derive(Clone, Copy, Debug)]
+pub struct Line<'a> {
+    pub number: usize,
+    pub whole: &'a [u8],
+    pub before: &'a [u8],
 }
 
-// Behind the newline before the place, or where the text starts.
-pub(crate) fn line_start(text: &[u8], at: u32) -> u32 {
-    let first = text_start(text);
-    let mut start = at;
-    while start > first {
-        if chars::byte_at(text, Place(start - 1)) == 10 {
-            break;
-        }
-        start -= 1;
+// Behind the newline before the place, or where the text starts for people: behind a byte order mark.
+fn start(text: &[u8], at: usize) -> usize
+    requires { at ≤ length text.now }
+    ensures { result ≤ at }
+{
+    let before = &text[..at];
+    match before.iter().rposition(|&b| b == b'\n') {
+        Some(newline) => newline + 1,
+        None if text.starts_with(BYTE_ORDER_MARK) => at.min(3),
+        None => 0,
     }
-    start
-}
-
-// The newline behind the place, or the end of the text.
-fn newline_from(text: &[u8], at: u32) -> u32 {
-    let mut end = at;
-    while end < CAP {
-        if end as usize >= text.len() {
-            break;
-        }
-        if chars::byte_at(text, Place(end)) == 10 {
-            break;
-        }
-        end += 1;
-    }
-    end
 }
 
 // Where the line's last character ends: a carriage return before the newline is part of the newline.
-pub(crate) fn line_end(text: &[u8], at: u32) -> u32 {
-    let end = newline_from(text, at);
-    if end > at {
-        if chars::byte_at(text, Place(end)) == 10 {
-            if chars::byte_at(text, Place(end - 1)) == 13 {
-                return end - 1;
-            }
-        }
+fn end(text: &[u8], at: usize) -> usize
+    requires { at ≤ length text.now }
+    ensures behind { at ≤ result }
+    ensures within { result ≤ length text.now }
+{
+    let behind = &text[at..];
+    match behind.iter().position(|&b| b == b'\n') {
+        Some(length) if length > 0 && behind[length - 1] == b'\r' => at + length - 1,
+        Some(length) => at + length,
+        None => text.len(),
     }
-    end
 }
 
 // The byte starts a character: it is none of 80 to BF.
-fn starts(text: &[u8], at: u32) -> bool {
-    let b = chars::byte_at(text, Place(at));
-    b < 0x80 || b > 0xBF
+fn is_start(b: u8) -> bool {
+    !matches!(b, 0x80..=0xBF)
 }
 
-// Characters are counted from 1. Those before a refusal are well formed, so each has one byte that starts it.
-pub(crate) fn column(text: &[u8], start: u32, at: u32) -> u32 {
-    let mut column = 1;
-    let mut k = start;
-    while k < at {
-        if starts(text, k) {
-            column = std::num::wrapping_add_u32(column, 1);
+impl<'a> Line<'a> {
+    /// The line of a place of a text.
+    pub fn around(text: &'a [u8], at: usize) -> Line<'a>
+        requires { at ≤ length text.now }
+    {
+        let start = start(text, at);
+        Line {
+            number: files::line_behind(&text[..at]),
+            whole: &text[start..end(text, at)],
+            before: &text[start..at],
         }
-        k += 1;
     }
-    column
+
+    /// Characters are counted from 1. Those before a refusal are well formed, so each has one byte that starts it.
+    pub fn column(&self) -> usize {
+        1 + self.before.iter().filter(|&&b| is_start(b)).count()
+    }
 }
 
-// A caret under the place: as many blanks as there are characters, and tabs where they have tabs.
-pub(crate) fn caret(from: Out, text: &[u8], start: u32, at: u32) -> Out {
-    let mut out = from;
-    let mut k = start;
-    while k < at {
-        if chars::byte_at(text, Place(k)) == 9 {
-            out = out.byte(b'\t');
-        } else if starts(text, k) {
-            out = out.byte(b' ');
+/// A caret under a place, behind these bytes: as many blanks as they have characters, and tabs where they have tabs.
+#[derive(Clone, Copy, Debug)]
+pub struct Caret<'a>(pub &'a [u8]);
+
+impl fmt::Display for Caret<'_> {
+    fn fmt<W: fmt::Write>(&self, f: &mut fmt::Formatter<W>) -> fmt::Result {
+        for &b in self.0 {
+            match b {
+                b'\t' => f.write_str("\t")?,
+                _ if is_start(b) => f.write_str(" ")?,
+                _ => {}
+            }
         }
-        k += 1;
+        f.write_str("^")
     }
-    out.byte(b'^').line()
 }

@@ -4,37 +4,39 @@
 mod characters;
 mod kind_names;
 mod lines;
-mod messages;
 mod options;
 mod refusing;
 mod stepping;
 
-use options::Asked;
-use std::io::Stdout;
+use options::{Asked, USAGE};
+use std::alloc::Global;
+use std::io;
+use std::io::{BufWriter, Write};
 use std::rt::{Env, Files};
 
-fn list(rt: &(impl Env + Files), to: Stdout, asked: Asked) {
-    let mut name = [0u8; 4096];
-    let mut text = [0u8; 65537];
-    let loaded = files::load(rt, to, asked.file, &mut name, &mut text);
-    if !loaded.ok {
-        return;
+// Prints what is asked for, or what is wrong with the question or the file.
+fn answer(rt: &impl Files, alloc: Global, out: &mut impl Write, asked: Asked) -> io::Result<()> {
+    match asked {
+        Asked::Help => out.write_all(USAGE.as_bytes()),
+        Asked::Rows(file, form) => match files::load(rt, alloc, file) {
+            Ok(source) => stepping::print(out, source.name, source.text.as_slice(), form),
+            Err(complaint) => complaint.say(out),
+        },
+        Asked::Wrong(wrong) => {
+            wrong.say(out)?;
+            out.write_all(USAGE.as_bytes())
+        }
     }
-    let n = loaded.name;
-    let length = loaded.text;
-    stepping::print(to, &name[0..n], &text[0..length], asked);
 }
 
+fn run(rt: &(impl Env + Files + Print), alloc: Global) -> io::Result<()> {
+    let arguments = files::arguments(rt, alloc)?;
+    let mut out = BufWriter::new(alloc, io::writer(rt))?;
+    answer(rt, alloc, &mut out, Asked::from(arguments.as_slice()))?;
+    out.flush()
+}
+
+// There is no one to tell where memory runs out or standard output takes no more: the exit status says nothing.
 fn main(rt: HostRuntime) {
-    let to = rt.stdout();
-    let asked = options::arguments(&rt);
-    if asked.wrong > 0 {
-        options::print_wrong(&rt, to, asked.wrong);
-        return;
-    }
-    if asked.help {
-        options::print_usage(to);
-        return;
-    }
-    list(&rt, to, asked);
+    let _ = run(&rt, rt.alloc());
 }

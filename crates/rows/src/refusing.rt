@@ -1,31 +1,40 @@
 //! A refusal for people: FILE:LINE:COLUMN, what is wrong, its three numbers, and the line with a caret under the place.
-use crate::characters::shown;
-use crate::lines;
-use crate::messages::message;
+use crate::characters::{Named, Plain};
+use crate::lines::{Caret, Line};
 use answers::Refusal;
-use files::Out;
+use files::{InNumbers, InWords};
+use std::io::Write;
+use std::{fmt, io};
 
-// The text is at offset 0, so places and positions are the same numbers.
-fn line_of(text: &[u8], at: u32) -> usize {
-    let before = at as usize;
-    if text.len() < before {
-        return 0;
+/// What a refusal of a text says, and the character or number that it is about.
+#[derive(Clone, Copy, Debug)]
+struct Message(Refusal);
+
+impl fmt::Display for Message {
+    fn fmt<W: fmt::Write>(&self, f: &mut fmt::Formatter<W>) -> fmt::Result {
+        write!(f, "{}", InWords(self.0))?;
+        match self.0 {
+            Refusal::ControlCodepoint(_, c)
+            | Refusal::DeprecatedCodepoint(_, c)
+            | Refusal::ForbiddenCodepoint(_, c)
+            | Refusal::Unexpected(_, c)
+            | Refusal::InvalidStringElement(_, c)
+            | Refusal::InvalidStringEscape(_, c)
+            | Refusal::WantedChar(_, c)
+            | Refusal::InvalidHexDigit(_, c) => write!(f, ": {}", Named(c)),
+            Refusal::InvalidUtf8(_, byte) => write!(f, ": byte {byte}"),
+            Refusal::InvalidUnicodeValue(_, n) => write!(f, ": {n:x}"),
+            _ => Ok(()),
+        }
     }
-    files::line_behind(&text[0..before])
 }
 
-pub(crate) fn print(out: Out, name: &[u8], text: &[u8], refusal: Refusal) -> Out {
-    let told = refusal.numbers();
-    let at = told.position;
-    let start = lines::line_start(text, at);
-    let placed = out
-        .text(name)
-        .byte(b':')
-        .number(line_of(text, at) as u64)
-        .byte(b':')
-        .number(lines::column(text, start, at) as u64)
-        .text(b": ");
-    let said = message(placed, told).numbers(told);
-    let line = shown(said, text, start, lines::line_end(text, at), false).line();
-    lines::caret(line, text, start, at)
+/// The text is at offset 0, so places and positions are the same numbers.
+pub fn print(out: &mut impl Write, name: &[u8], text: &[u8], refusal: Refusal) -> io::Result<()> {
+    let at = (refusal.position() as usize).min(text.len());
+    let line = Line::around(text, at);
+    out.write_all(name)?;
+    write!(out, ":{}:{}: ", line.number, line.column())?;
+    writeln!(out, "{} {}", Message(refusal), InNumbers(refusal))?;
+    writeln!(out, "{}\n{}", Plain(line.whole), Caret(line.before))
 }

@@ -1,125 +1,85 @@
 //! The tokens of a text, printed one by one as they are read.
-use crate::characters::shown;
+use crate::characters::Quoted;
 use crate::kind_names::name_of;
-use crate::options::Asked;
+use crate::options::Form;
 use crate::refusing;
-use answers::Place;
-use files::Out;
+use answers::{Place, Refusal, Span};
 use kinds::Token;
-use std::io::Stdout;
-use steps::{Moved, Opened, Step};
+use std::io;
+use std::io::Write;
+use steps::Moved;
 
-// Where the printing stands.
-#[derive(Drop)]
-pub struct Printed {
-    pub out: Out,
-    pub at: Place,
-    pub is_last: bool,
+// Why no row follows.
+#[derive(Clone, Copy, Debug)]
+enum Stop {
+    Refused(Refusal),
+    // standard output takes no more
+    Lost(io::Error),
 }
 
-fn blanks(from: Out, count: u32) -> Out {
-    let mut out = from;
-    let mut left = count;
-    while left > 0 {
-        out = out.byte(b' ');
-        left -= 1;
-    }
-    out
-}
-
-// The blanks that bring a number of at most five digits to five columns.
-fn short_of_five(n: u32) -> u32 {
-    match n {
-        0..=9 => 4,
-        10..=99 => 3,
-        100..=999 => 2,
-        1000..=9999 => 1,
-        _ => 0,
+impl From<Refusal> for Stop {
+    fn from(refusal: Refusal) -> Stop {
+        Stop::Refused(refusal)
     }
 }
 
-fn numbers_row(out: Out, kind: Token, start: u32, end: u32) -> Out {
-    out.number(kind.kind() as u64)
-        .byte(b' ')
-        .number(start as u64)
-        .byte(b' ')
-        .number(end as u64)
-        .line()
-}
-
-fn row(out: Out, text: &[u8], kind: Token, start: u32, end: u32) -> Out {
-    let named = name_of(out, kind);
-    let spanned = named.number(start as u64).text(b"..").number(end as u64);
-    let aligned = blanks(blanks(spanned, short_of_five(start)), short_of_five(end));
-    shown(aligned.text(b" \""), text, start, end, true).text(b"\"\n")
-}
-
-fn step(text: &[u8], at: Place, filtered: bool) -> Moved {
-    if filtered {
-        return steps::next_at(text, 0, at);
+impl From<io::Error> for Stop {
+    fn from(error: io::Error) -> Stop {
+        Stop::Lost(error)
     }
-    steps::next_raw_at(text, 0, at)
 }
 
-fn turn(out: Out, at: Place, name: &[u8], text: &[u8], asked: Asked) -> Printed {
-    let moved = step(text, at, asked.filtered);
-    let found = moved.step;
-    let next = moved.at;
-    match found {
-        Step::Token(kind, span) => {
-            let start = span.start;
-            let end = span.end;
-            let printed = if asked.numbers {
-                numbers_row(out, kind, start.0, end.0)
-            } else {
-                row(out, text, kind, start.0, end.0)
-            };
-            Printed {
-                out: printed,
-                at: next,
-                is_last: false,
-            }
-        }
-        Step::End => Printed {
-            out,
-            at,
-            is_last: true,
-        },
-        Step::No => Printed {
-            out,
-            at,
-            is_last: true,
-        },
-        Step::Refused(refusal) => Printed {
-            out: refusing::print(out, name, text, refusal),
-            at,
-            is_last: true,
-        },
+// How many columns the digits of a number take.
+fn digits(n: u32) -> usize {
+    n.checked_ilog10().map_or(1, |log| log as usize + 1)
+}
+
+fn print_row(
+    out: &mut impl Write,
+    text: &[u8],
+    kind: Token,
+    span: Span,
+    form: Form,
+) -> io::Result<()> {
+    let start = span.start.0;
+    let end = span.end.0;
+    if form.is_numbers {
+        return writeln!(out, "{} {start} {end}", kind.kind());
+    }
+    // Both numbers have at most five digits: together they take ten columns.
+    let width = 10usize.saturating_sub(digits(start));
+    let bytes = text.get(start as usize..end as usize).unwrap_or(&[]);
+    write!(out, "{:<14}{start}..{end:<width$}", name_of(kind))?;
+    writeln!(out, " \"{}\"", Quoted(bytes))
+}
+
+fn step(text: &[u8], at: Place, form: Form) -> Moved {
+    if form.is_filtered {
+        steps::next_at(text, 0, at)
+    } else {
+        steps::next_raw_at(text, 0, at)
     }
 }
 
 // No token is empty, so a text has at most as many as it has bytes, and the turns last for the end behind them too.
-fn print_from(from: Out, start: Place, name: &[u8], text: &[u8], asked: Asked) -> Out {
-    let mut out = from;
-    let mut at = start;
-    let mut turns = 65537u32;
-    while turns > 0 {
-        let t = turn(out, at, name, text, asked);
-        out = t.out;
-        at = t.at;
-        if t.is_last {
+fn print_rows(out: &mut impl Write, text: &[u8], form: Form) -> Result<(), Stop> {
+    let mut at = steps::open(text, 0)?;
+    for _ in 0..=text.len() {
+        let moved = step(text, at, form);
+        let Some((kind, span)) = moved.step? else {
             break;
-        }
-        turns -= 1;
+        };
+        print_row(out, text, kind, span, form)?;
+        at = moved.at;
     }
-    out
+    Ok(())
 }
 
-pub(crate) fn print(to: Stdout, name: &[u8], text: &[u8], asked: Asked) {
-    let out = files::output(to);
-    let printed = match steps::open(text, 0) {
-        Opened::Refused(refusal) => refusing::print(out, name, text, refusal),
-        Opened::At(start) => print_from(out, start, name, text, asked),
-    };
-    printed.flush();
+/// Prints the rows of a text, and behind them why it is refused.
+pub fn print(out: &mut impl Write, name: &[u8], text: &[u8], form: Form) -> io::Result<()> {
+    match print_rows(out, text, form) {
+        Ok(()) => Ok(()),
+        Err(Stop::Refused(refusal)) => refusing::print(out, name, text, refusal),
+        Err(Stop::Lost(error)) => Err(error),
+    }
 }
