@@ -27,8 +27,10 @@ fn answer<'a>(
         Task::Help => Ok(out.write_all(options::USAGE.as_bytes())?),
         Task::Sort(file) => {
             let source = files::load(rt, alloc, file)?;
-            let settled = sorting::print(alloc, out, &source, clerk::toposort)?;
-            Ok(writeln!(out, "settled {settled}")?)
+            if let Some(settled) = sorting::print(alloc, out, &source, clerk::toposort)? {
+                writeln!(out, "settled {settled}")?;
+            }
+            Ok(())
         }
         Task::Propose(file) => {
             let source = files::load(rt, alloc, file)?;

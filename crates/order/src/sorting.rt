@@ -65,13 +65,13 @@ pub fn refuse<'a>(
     Ok(writeln!(out, " {}", InNumbers(refusal))?)
 }
 
-/// Prints the order that a planner gives. What comes back is how many dependencies it settles.
+/// Prints the order that a planner gives, and answers how many dependencies it settles; or prints what is wrong in its place, and answers `None`.
 pub fn print<'a, P>(
     alloc: Global,
     out: &mut impl Write,
     source: &Source<'a>,
     planner: P,
-) -> Result<u32, Wrong<'a>>
+) -> Result<Option<u32>, Wrong<'a>>
 where
     P: FnOnce(&[u32], &[u8], &mut [u32]) -> Sorted,
     requires { P.IsAlwaysCallable planner }
@@ -80,9 +80,10 @@ where
     let sheet = Sheet::new(alloc, list.items.as_slice())?;
     let mut order = [0; 256];
     let sorted = planner(sheet.words.as_slice(), sheet.names.as_slice(), &mut order);
-    match sorted.verdict {
-        Ok(()) => print_order(out, &list, &order)?,
-        Err(refusal) => refuse(out, source.name, &list, refusal, sorted.settled)?,
+    if let Err(refusal) = sorted.verdict {
+        refuse(out, source.name, &list, refusal, sorted.settled)?;
+        return Ok(None);
     }
-    Ok(sorted.settled)
+    print_order(out, &list, &order)?;
+    Ok(Some(sorted.settled))
 }
