@@ -51,3 +51,44 @@ pub fn arguments(rt: &impl Env, alloc: Global) -> Result<Vec<Argument>, AllocErr
     }
     Ok(all)
 }
+
+#[cfg(test)]
+mod tests {
+    use super::*;
+    use std::test::Fail;
+
+    // A program's name, an option, and an argument that is too long.
+    struct Given;
+
+    impl Env for Given {
+        fn arg(&self, i: usize, buf: &mut [u8]) -> Result<usize, FillError> {
+            match i {
+                0 | 1 if buf.len() < 2 => Err(FillError::TooLong),
+                0 | 1 => {
+                    buf[0] = b'-';
+                    buf[1] = b'x';
+                    Ok(2)
+                }
+                2 => Err(FillError::TooLong),
+                _ => Err(FillError::NotPresent),
+            }
+        }
+
+        fn var(&self, _name: &str, _buf: &mut [u8]) -> Result<usize, FillError> {
+            Err(FillError::NotPresent)
+        }
+
+        fn var_at(&self, _i: usize, _buf: &mut [u8]) -> Result<usize, FillError> {
+            Err(FillError::NotPresent)
+        }
+    }
+
+    #[test]
+    fn takes_all_behind_the_name(rt: HostRuntime) -> Result<(), Fail> {
+        let all = arguments(&Given, rt.alloc())?;
+        assert_eq!(rt; all.len(), 2);
+        assert_eq!(rt; all[0].as_bytes(), b"-x".as_slice());
+        assert_eq!(rt; all[1].as_bytes().len(), 0);
+        Ok(())
+    }
+}

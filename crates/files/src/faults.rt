@@ -1,4 +1,8 @@
 //! What is wrong with a file, or with an argument that is to name one.
+ghost use Rattle.std.specs.Prelude.{◌++◌, ◌∷◌, [], Some, codes, OnOk};
+ghost use Rattle.std.specs.Io.KnownBytes.{Appends};
+ghost use Rattle.files.specs.Faults.{words_of};
+
 use std::error::Error;
 use std::io::{ErrorKind, Write};
 use std::str::Utf8Error;
@@ -22,6 +26,8 @@ pub enum Fault {
 }
 
 impl fmt::Display for Fault {
+    ghost output = { λ fault. Some (words_of fault) };
+
     fn fmt<W: fmt::Write>(&self, f: &mut fmt::Formatter<W>) -> fmt::Result {
         f.write_str(match self {
             Fault::NoName => "the name of a file is wanted",
@@ -68,7 +74,9 @@ pub struct Complaint<'a> {
 
 impl Complaint<'_> {
     /// Says it in one line.
-    pub fn say(self, out: &mut impl Write) -> io::Result<()> {
+    pub fn say<W: Write>(self, out: &mut W) -> io::Result<()>
+        ensures { OnOk result (Appends (W.contents out.old) (W.contents out.new) (self.entry.name.now ++ codes ": " ++ words_of self.entry.fault ++ (10 ∷ []))) }
+    {
         out.write_all(self.name)?;
         writeln!(out, ": {}", self.fault)
     }

@@ -52,3 +52,29 @@ pub fn load<'a>(
         Err(fault) => Err(Complaint { name, fault }),
     }
 }
+
+#[cfg(test)]
+mod tests {
+    use super::*;
+    use std::test::Fail;
+
+    #[test]
+    fn tells_files_apart(rt: HostRuntime) -> Result<(), Fail> {
+        let alloc = rt.alloc();
+        let empty = Argument::Bytes(b"/dev/null".to_vec(alloc)?);
+        assert_eq!(rt; load(&rt, alloc, &empty)?.text.len(), 0);
+        let cases: [(&[u8], Fault); 5] = [
+            (b"/dev/zero", Fault::TooLong),
+            (b"/dev", Fault::IsADirectory),
+            (b"/dev/null/x", Fault::NotADirectory),
+            (b"/dev/\xff", Fault::NameNotUtf8),
+            (b"", Fault::NoName),
+        ];
+        for (name, fault) in cases {
+            let argument = Argument::Bytes(name.to_vec(alloc)?);
+            let found = load(&rt, alloc, &argument).err().map(|c| c.fault);
+            assert_eq!(rt; found, Some(fault));
+        }
+        Ok(())
+    }
+}

@@ -1,4 +1,7 @@
 //! Refusals for people, by the order of docs/REFUSALS.md.
+ghost use Rattle.std.specs.Prelude.{Some};
+ghost use Rattle.files.specs.Refusals.{numbers_of};
+
 use answers::{Numbers, Refusal};
 use std::fmt;
 
@@ -54,6 +57,8 @@ impl fmt::Display for InWords {
 pub struct InNumbers(pub Refusal);
 
 impl fmt::Display for InNumbers {
+    ghost output = { λ shown. Some (numbers_of shown.0) };
+
     fn fmt<W: fmt::Write>(&self, f: &mut fmt::Formatter<W>) -> fmt::Result {
         let Numbers {
             number,
