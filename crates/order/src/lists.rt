@@ -29,7 +29,7 @@ fn item_of<'a, 't>(
     };
     let mut parts = line.bytes.split(|&b| b == b':');
     let names = words(alloc, parts.next().unwrap_or(&[]), line.number)?;
-    let (Some(behind), colons) = (parts.next(), parts.count()) else {
+    let Some(behind) = parts.next() else {
         return if names.is_empty() {
             Ok(None)
         } else {
@@ -38,7 +38,7 @@ fn item_of<'a, 't>(
     };
     match names.as_slice() {
         [] => Err(wrong(Fault::NoName)),
-        [name] if colons == 0 => Ok(Some(Item {
+        [name] if parts.next().is_none() => Ok(Some(Item {
             name: *name,
             needs: words(alloc, behind, line.number)?,
         })),

@@ -13,7 +13,7 @@ mod wrong;
 use options::Task;
 use std::alloc::Global;
 use std::io;
-use std::io::{BufWriter, Write};
+use std::io::{BufWriter, ErrorKind, Write};
 use std::rt::{Env, Files};
 use wrong::Wrong;
 
@@ -54,7 +54,11 @@ fn run(rt: &(impl Env + Files + Print), alloc: Global) -> io::Result<()> {
     out.flush()
 }
 
-// There is no one to tell where memory runs out or standard output takes no more: the exit status says nothing.
+// Where standard output takes no more there is no one to tell, and the exit status says nothing.
 fn main(rt: HostRuntime) {
-    let _ = run(&rt, rt.alloc());
+    if let Err(error) = run(&rt, rt.alloc()) {
+        if error.kind() == ErrorKind::OutOfMemory {
+            let _ = rt.println("memory ran out");
+        }
+    }
 }

@@ -11,7 +11,7 @@ mod stepping;
 use options::{Asked, USAGE};
 use std::alloc::Global;
 use std::io;
-use std::io::{BufWriter, Write};
+use std::io::{BufWriter, ErrorKind, Write};
 use std::rt::{Env, Files};
 
 // Prints what is asked for, or what is wrong with the question or the file.
@@ -36,7 +36,11 @@ fn run(rt: &(impl Env + Files + Print), alloc: Global) -> io::Result<()> {
     out.flush()
 }
 
-// There is no one to tell where memory runs out or standard output takes no more: the exit status says nothing.
+// Where standard output takes no more there is no one to tell, and the exit status says nothing.
 fn main(rt: HostRuntime) {
-    let _ = run(&rt, rt.alloc());
+    if let Err(error) = run(&rt, rt.alloc()) {
+        if error.kind() == ErrorKind::OutOfMemory {
+            let _ = rt.println("memory ran out");
+        }
+    }
 }
