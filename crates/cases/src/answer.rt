@@ -1,8 +1,13 @@
 //! What a call answers, as the numbers that a line holds: the three of every answer, three more by the call, and the cursor.
-use answers::{Refusal, Verdict};
-use steps::Step;
+use crate::fault::Fault;
+use crate::fields::decimal;
+use answers::{Numbers, Place, Refusal, Span};
+use clerk::Sorted;
+use kinds::Token;
+use names::Id;
+use steps::Moved;
 
-#[derive(Drop)]
+#[derive(Clone, Copy, Debug, Default, PartialEq, Eq)]
 pub struct Answer {
     pub number: u32,
     pub position: u32,
@@ -16,65 +21,121 @@ pub struct Answer {
 // The kind that stands for no token.
 const NO_KIND: u32 = 67;
 
-// An accepted call.
-pub(crate) fn accepted(x: u32, y: u32, z: u32, cursor: u32) -> Answer {
-    Answer {
-        number: 0,
-        position: 0,
-        detail: 0,
-        x,
-        y,
-        z,
-        cursor,
+// The answer that a line's fields hold.
+impl TryFrom<&[&[u8]]> for Answer {
+    type Error = Fault;
+
+    fn try_from(fields: &[&[u8]]) -> Result<Answer, Fault> {
+        let [number, position, detail, x, y, z, cursor] = fields else {
+            return Err(Fault::Malformed);
+        };
+        Ok(Answer {
+            number: decimal(number)?,
+            position: decimal(position)?,
+            detail: decimal(detail)?,
+            x: decimal(x)?,
+            y: decimal(y)?,
+            z: decimal(z)?,
+            cursor: decimal(cursor)?,
+        })
     }
 }
 
-// A verdict with one number beside it.
-pub(crate) fn judged(verdict: Verdict, x: u32, cursor: u32) -> Answer {
-    let told = verdict.numbers();
-    Answer {
-        number: told.number,
-        position: told.position,
-        detail: told.detail,
-        x,
-        y: 0,
-        z: 0,
-        cursor,
+impl From<Refusal> for Answer {
+    fn from(refusal: Refusal) -> Answer {
+        let Numbers {
+            number,
+            position,
+            detail,
+        } = refusal.numbers();
+        Answer {
+            number,
+            position,
+            detail,
+            ..Answer::default()
+        }
     }
 }
 
-pub(crate) fn refused(refusal: Refusal, cursor: u32) -> Answer {
-    judged(Verdict::Refused(refusal), 0, cursor)
-}
-
-// A step, with the place where it left the cursor.
-pub(crate) fn stepped(step: Step, cursor: u32) -> Answer {
-    match step {
-        Step::Token(kind, span) => accepted(kind.kind() as u32, span.start.0, span.end.0, cursor),
-        Step::End => accepted(NO_KIND, 0, 0, cursor),
-        Step::No => accepted(NO_KIND, 0, 0, cursor),
-        Step::Refused(refusal) => refused(refusal, cursor),
+// A check that hands nothing back.
+impl From<()> for Answer {
+    fn from(_: ()) -> Answer {
+        Answer::default()
     }
 }
 
-pub(crate) fn same_answer(a: Answer, b: Answer) -> bool {
-    if a.number != b.number {
-        return false;
+// Opening, by the cursor.
+impl From<Place> for Answer {
+    fn from(at: Place) -> Answer {
+        Answer {
+            cursor: at.0,
+            ..Answer::default()
+        }
     }
-    if a.position != b.position {
-        return false;
+}
+
+// A listing or a string, by its count.
+impl From<u32> for Answer {
+    fn from(x: u32) -> Answer {
+        Answer {
+            x,
+            ..Answer::default()
+        }
     }
-    if a.detail != b.detail {
-        return false;
+}
+
+// An identifier, by its place and its length.
+impl From<Id> for Answer {
+    fn from(id: Id) -> Answer {
+        Answer {
+            x: id.first.0,
+            y: id.last.0.wrapping_sub(id.first.0),
+            ..Answer::default()
+        }
     }
-    if a.x != b.x {
-        return false;
+}
+
+// A step.
+impl From<Option<(Token, Span)>> for Answer {
+    fn from(found: Option<(Token, Span)>) -> Answer {
+        match found {
+            Some((kind, span)) => Answer {
+                x: u32::from(kind.kind()),
+                y: span.start.0,
+                z: span.end.0,
+                ..Answer::default()
+            },
+            None => Answer::from(NO_KIND),
+        }
     }
-    if a.y != b.y {
-        return false;
+}
+
+// What a call says where it accepts, or its refusal.
+impl<T: Into<Answer>> From<Result<T, Refusal>> for Answer {
+    fn from(answered: Result<T, Refusal>) -> Answer {
+        match answered {
+            Ok(said) => said.into(),
+            Err(refusal) => refusal.into(),
+        }
     }
-    if a.z != b.z {
-        return false;
+}
+
+// A step, and the place where it left the cursor.
+impl From<Moved> for Answer {
+    fn from(moved: Moved) -> Answer {
+        Answer {
+            cursor: moved.at.0,
+            ..Answer::from(moved.step)
+        }
     }
-    a.cursor == b.cursor
+}
+
+// A sort, by the settled count.
+impl From<Sorted> for Answer {
+    fn from(sorted: Sorted) -> Answer {
+        Answer {
+            x: sorted.settled,
+            ..Answer::from(sorted.verdict)
+        }
+    }
 }

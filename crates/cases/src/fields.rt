@@ -1,90 +1,109 @@
-//! The fields of a line, between single blanks, and the decimal numbers in them.
-ghost use Rattle.std.specs.Prelude.{◌≤◌, length};
+//! The numbers, bytes and words that a field says. For bytes and words `-` says none, and `N*x` says x N times.
+use crate::fault::Fault;
+use std::alloc::Global;
+use std::str;
 
-use crate::reading::find;
-
-// How many fields a line has.
-const FIELDS: usize = 17;
-
-// What a field says as a decimal number of 32 bits, if it is one.
-#[derive(Drop)]
-pub enum Number {
-    Value(u32),
-    None,
+// A decimal number of 32 bits: digits alone.
+pub(crate) fn decimal(field: &[u8]) -> Result<u32, Fault> {
+    if !field.iter().all(u8::is_ascii_digit) {
+        return Err(Fault::Malformed);
+    }
+    Ok(str::from_utf8(field)?.parse()?)
 }
 
-// Where a field starts, counted from 0; or the end of a line with fewer fields.
-fn start_of(line: &[u8], field: usize) -> usize
-    ensures { result ≤ length line.now }
-{
-    let mut at = 0;
-    for i in 0..field {
-        let end = find(line, b' ', at);
-        if end == line.len() {
-            return end;
+// A hexadecimal digit's value.
+fn hex_digit(digit: u8) -> Result<u8, Fault> {
+    match digit {
+        b'0'..=b'9' => Ok(digit - b'0'),
+        b'a'..=b'f' => Ok(digit - b'a' + 10),
+        _ => Err(Fault::Malformed),
+    }
+}
+
+// What a field lists: bytes or words.
+pub trait Element: Copy + PartialEq {
+    // what joins the parts of a field
+    const JOINT: u8;
+
+    // the most that a line says
+    const MOST: usize;
+
+    // What stands at place i of lent memory before a call: no two neighbours are the same.
+    fn filler(i: usize) -> Self;
+
+    // What a part without a star says.
+    fn parse(alloc: Global, part: &[u8]) -> Result<Vec<Self>, Fault>;
+}
+
+impl Element for u8 {
+    const JOINT: u8 = b'+';
+
+    const MOST: usize = 65537;
+
+    fn filler(i: usize) -> u8 {
+        (i % 251) as u8
+    }
+
+    // Two digits for each byte.
+    fn parse(alloc: Global, part: &[u8]) -> Result<Vec<u8>, Fault> {
+        let mut bytes = Vec::new(alloc);
+        for pair in part.chunks(2) {
+            let [high, low] = pair else {
+                return Err(Fault::Malformed);
+            };
+            bytes.push(hex_digit(*high)? << 4 | hex_digit(*low)?)?;
         }
-        at = end + 1;
+        Ok(bytes)
     }
-    at
 }
 
-// A field, counted from 0; an empty one where the line has fewer.
-pub(crate) fn field<'a>(line: &'a [u8], i: usize) -> &'a [u8] {
-    let start = start_of(line, i);
-    let end = find(line, b' ', start);
-    &line[start..end]
+impl Element for u32 {
+    const JOINT: u8 = b',';
+
+    const MOST: usize = 12288;
+
+    fn filler(i: usize) -> u32 {
+        0xA5000000 + (i % 65536) as u32
+    }
+
+    // One word.
+    fn parse(alloc: Global, part: &[u8]) -> Result<Vec<u32>, Fault> {
+        Ok(vec![in alloc; decimal(part)?]?)
+    }
 }
 
-// Whether a line has all fields and no more, and none is empty.
-pub(crate) fn is_whole(line: &[u8]) -> bool {
-    for i in 0..FIELDS {
-        let one = field(line, i);
-        if one.len() == 0 {
-            return false;
+// How often a part says what it says, if it has a star, and what that is.
+fn split_star(part: &[u8]) -> Result<(Option<u32>, &[u8]), Fault> {
+    match part.iter().position(|byte| *byte == b'*') {
+        Some(star) => Ok((Some(decimal(&part[..star])?), &part[star + 1..])),
+        None => Ok((None, part)),
+    }
+}
+
+// What one part says, behind what is listed so far.
+fn list_part<T: Element>(list: &mut Vec<T>, part: &[u8], most: usize) -> Result<(), Fault> {
+    let (times, said) = split_star(part)?;
+    let elements = T::parse(*list.allocator(), said)?;
+    let room = most.saturating_sub(list.len());
+    match (times, elements.as_slice()) {
+        (None, said @ [_, ..]) if said.len() <= room => list.extend_from_slice(said)?,
+        (Some(times), [element]) if times as usize <= room => {
+            for _ in 0..times {
+                list.push(*element)?;
+            }
+        }
+        _ => return Err(Fault::Malformed),
+    }
+    Ok(())
+}
+
+// All that a field says, which may be so much.
+pub(crate) fn list<T: Element>(alloc: Global, field: &[u8], most: usize) -> Result<Vec<T>, Fault> {
+    let mut list = Vec::new(alloc);
+    if field != b"-".as_slice() {
+        for part in field.split(|byte| *byte == T::JOINT) {
+            list_part(&mut list, part, most)?;
         }
     }
-    let last = start_of(line, FIELDS - 1);
-    find(line, b' ', last) == line.len()
-}
-
-// Whether two fields are the same.
-pub(crate) fn same(a: &[u8], b: &[u8]) -> bool {
-    if a.len() != b.len() {
-        return false;
-    }
-    for i in 0..a.len() {
-        if a[i] != b[i] {
-            return false;
-        }
-    }
-    true
-}
-
-// A decimal digit's value, or 10.
-fn digit(b: u8) -> u64
-    ensures { result ≤ 10 }
-{
-    match b {
-        b'0'..=b'9' => b as u64 - 48,
-        _ => 10,
-    }
-}
-
-// The number that some digits say.
-pub(crate) fn decimal(digits: &[u8]) -> Number {
-    if digits.len() == 0 {
-        return Number::None;
-    }
-    let mut value: u64 = 0;
-    for i in 0..digits.len() {
-        let more = digit(digits[i]);
-        if more == 10 {
-            return Number::None;
-        }
-        value = value * 10 + more;
-        if value > 4294967295 {
-            return Number::None;
-        }
-    }
-    Number::Value(value as u32)
+    Ok(list)
 }

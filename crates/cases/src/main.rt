@@ -3,23 +3,20 @@
 #![tactic(auto)]
 
 mod answer;
-mod asked;
-mod calls;
+mod call;
+mod case;
 mod chain;
 mod edges;
 mod failing;
+mod fault;
 mod fields;
-mod groups;
-mod items;
 mod lent;
 mod memory;
-mod reading;
 mod replay;
-mod running;
 mod tally;
 
 use std::fs::File;
-use std::io::{Error, ErrorKind, Stderr};
+use std::io::{Error, ErrorKind};
 use std::rt::{Env, Files};
 use std::{fs, io, str};
 use tally::Tally;
@@ -32,36 +29,21 @@ fn open(rt: &impl Files<File = File>, path: &[u8]) -> io::Result<File> {
     }
 }
 
-// The list in the file of this name, as far as it can be read.
-fn replayed(rt: &impl Files<File = File>, to: Stderr, path: &[u8], tally: Tally) -> Tally {
-    match open(rt, path) {
-        Ok(mut file) => {
-            let mut buffer = [0u8; 8192];
-            replay::replay(tally, &mut file, &mut buffer)
-        }
-        Err(error) => {
-            failing::fail(to, path, error);
-            tally
-        }
+// Replays the list that the program is told to, and `answers.txt` where it is told none.
+fn main(rt: HostRuntime) -> io::Result<()> {
+    let mut name = [0; 4096];
+    let path = match rt.arg(1, &mut name) {
+        Ok(length) if length > 0 => &name[..length],
+        _ => b"answers.txt",
+    };
+    let alloc = rt.alloc();
+    let mut tally = Tally::default();
+    match open(&rt, path) {
+        Ok(file) => replay::replay(&rt, alloc, file, &mut tally)?,
+        Err(error) => failing::fail(alloc, rt.stderr(), path, error)?,
     }
-}
-
-// The list that the program is told to replay, and `answers.txt` where it is told none.
-fn told(rt: &impl Files<File = File>, to: Stderr, path: &[u8], tally: Tally) -> Tally {
-    if path.len() == 0 {
-        return replayed(rt, to, b"answers.txt", tally);
-    }
-    replayed(rt, to, path, tally)
-}
-
-fn main(rt: HostRuntime) {
-    let mut path = [0u8; 4096];
-    let length = rt.arg(1, &mut path).unwrap_or(0);
-    let tally = told(
-        &rt,
-        rt.stderr(),
-        &path[..length],
-        tally::nothing(rt.stdout()),
-    );
-    tally::print_tally(edges::with_edges(tally));
+    edges::try_all(&rt, alloc, &mut tally)?;
+    // there is no one to tell if it cannot be printed
+    let _ = print!(rt; "{tally}");
+    Ok(())
 }

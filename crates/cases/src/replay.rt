@@ -1,110 +1,67 @@
 //! All lines of the list, from an open file.
-use crate::asked::{CALL, is_case};
-use crate::fields::field;
-use crate::groups::call_of;
-use crate::memory::Outcome;
-use crate::reading::{find, keep, refill, whole_lines};
-use crate::running::run_line;
-use crate::tally::{Tally, with_comment, with_different, with_line, with_malformed, with_same};
+use crate::case::Case;
+use crate::fault::Fault;
+use crate::tally::Tally;
+use std::alloc::Global;
 use std::fs::File;
+use std::io::{self, BufRead, BufReader, Read};
 
-// What is counted so far, how many bytes at the buffer's front are held, and whether nothing more can be read.
-#[derive(Drop)]
-struct Progress {
-    tally: Tally,
-    held: usize,
-    ends: bool,
+// The most bytes that a line has, with its newline.
+const LONGEST: usize = 8192;
+
+// A line that cannot be read is named. There is no one to tell if that cannot be printed.
+fn name_malformed(rt: &impl Print, tally: &mut Tally, line: u32) {
+    tally.add_malformed();
+    let _ = println!(rt; "line {line} is malformed");
 }
 
-fn started(tally: Tally) -> Progress {
-    Progress {
-        tally,
-        held: 0,
-        ends: false,
+// One more line. One that differs is named.
+fn replay_line(rt: &impl Print, alloc: Global, line: &[u8], tally: &mut Tally) -> io::Result<()> {
+    let number = tally.add_line();
+    if line.starts_with(b"#") {
+        tally.add_comment();
+        return Ok(());
     }
-}
-
-fn ended(tally: Tally, held: usize) -> Progress {
-    Progress {
-        tally,
-        held,
-        ends: true,
-    }
-}
-
-fn is_comment(line: &[u8]) -> bool {
-    line.len() > 0 && line[0] == b'#'
-}
-
-// One more line.
-fn replay_line(from: Tally, line: &[u8]) -> Tally {
-    let tally = with_line(from);
-    if is_comment(line) {
-        return with_comment(tally);
-    }
-    if !is_case(line) {
-        return with_malformed(tally);
-    }
-    let call = call_of(field(line, CALL));
-    match run_line(line, call) {
-        Outcome::Same => with_same(tally, call),
-        Outcome::Differs => with_different(tally, call, b"line ", tally.lines),
-        Outcome::Malformed => with_malformed(tally),
-    }
-}
-
-// Some whole lines.
-fn replay_lines(from: Tally, lines: &[u8]) -> Tally {
-    let mut tally = from;
-    let mut at = 0;
-    while at < lines.len() {
-        let end = find(lines, b'\n', at);
-        tally = replay_line(tally, &lines[at..end]);
-        if end == lines.len() {
-            return tally;
+    match Case::read(alloc, line) {
+        Ok(mut case) => {
+            let call = case.call;
+            let is_same = case.is_met();
+            tally.add_case(call, is_same);
+            if !is_same {
+                let _ = println!(rt; "line {number} differs: {call}");
+            }
         }
-        at = end + 1;
+        Err(Fault::Malformed) => name_malformed(rt, tally, number),
+        Err(Fault::NoMemory(error)) => return Err(error.into()),
     }
-    tally
+    Ok(())
 }
 
-// One chunk more, read behind the held bytes: its whole lines, and what is held then.
-fn replay_some(from: Progress, file: &mut File, buffer: &mut [u8]) -> Progress {
-    let held = from.held;
-    let before = from.tally;
-    if buffer.len() < held {
-        return ended(before, held);
+// The whole file. What is left when nothing more can be read has no newline, or is too long: a line that cannot be read.
+// Nothing says that a file ends, so the lines are counted by a number that no run uses up.
+pub(crate) fn replay(
+    rt: &impl Print,
+    alloc: Global,
+    file: File,
+    tally: &mut Tally,
+) -> io::Result<()> {
+    let mut reader = BufReader::new(alloc, file)?;
+    let mut line = Vec::with_capacity(alloc, LONGEST)?;
+    for _ in 0..u64::MAX {
+        line.clear();
+        // a failed read ends the list, as its end does
+        let _ = reader
+            .by_ref()
+            .take(LONGEST as u64)
+            .read_until(b'\n', &mut line);
+        let Some(whole) = line.strip_suffix(b"\n") else {
+            break;
+        };
+        replay_line(rt, alloc, whole, tally)?;
     }
-    let more = refill(file, buffer, held);
-    if more == held {
-        return ended(before, held);
+    if !line.is_empty() {
+        let number = tally.add_line();
+        name_malformed(rt, tally, number);
     }
-    let whole = whole_lines(&buffer[0..more]);
-    let tally = replay_lines(before, &buffer[0..whole]);
-    let left = keep(buffer, whole, more);
-    Progress {
-        tally,
-        held: left,
-        ends: false,
-    }
-}
-
-// What is left when nothing more can be read has no newline, or is longer than the buffer: a line that cannot be read.
-fn with_rest(progress: Progress) -> Tally {
-    let tally = progress.tally;
-    if progress.held > 0 {
-        return with_malformed(with_line(tally));
-    }
-    tally
-}
-
-// The whole file. Nothing says that a file ends, so the turns are counted down from a number that no run uses up.
-pub(crate) fn replay(from: Tally, file: &mut File, buffer: &mut [u8]) -> Tally {
-    let mut progress = started(from);
-    let mut turns = u64::MAX;
-    while turns > 0 && !progress.ends {
-        progress = replay_some(progress, file, buffer);
-        turns -= 1;
-    }
-    with_rest(progress)
+    Ok(())
 }

@@ -1,9 +1,0 @@
--- The end goes down within the bytes.
-use Rattle.std.proofs.Common.{◌≤◌, length}
-use Rattle.cases.proofs.reading.whole_lines.Given as goal
-
-abbrev pub invariant-loop-end : goal.invariant-loop-end
-invariant-loop-end l = l.end ≤ length l.bytes
-
-abbrev pub decreases-loop-end : goal.decreases-loop-end
-decreases-loop-end l = l.end
