@@ -37,6 +37,7 @@ fn follows(low: u8, p: u8, b: u8) -> bool
 }
 
 // No only where of the n bytes from `at` on each but the first may stand behind the one before it. Seventeen bytes are read.
+// Both tests are made of each byte, by `&`: `&&`, or a search that stops, branches on each and takes twice the instructions.
 fn any_odd(text: &[u8], at: usize, n: u8, low: u8) -> bool
     requires { (at + 17 ≤ length text.now) × (n ≤ 17) × (low ≤ 0x61) }
     ensures { result ≡ false → Follow text.now low at (at + n) }
@@ -79,17 +80,15 @@ fn joined(text: &[u8], from: usize, end: usize, low: u8) -> bool
     requires { (from < end) × (end ≤ length text.now) × (low ≤ 0x61) }
     ensures { result ≡ true → Follow text.now low from end }
 {
-    let mut at = from;
-    while at + 17 <= text.len() {
+    for at in (from..end - 1).step_by(16) {
+        if text.len() < at + 17 {
+            return joined_singly(text, at, end, low);
+        }
         if any_odd(text, at, size_up_to(at, end), low) {
             return false;
         }
-        if end - at < 18 {
-            return true;
-        }
-        at += 16;
     }
-    joined_singly(text, at, end, low)
+    true
 }
 
 // Yes only where the parts are accepted.
