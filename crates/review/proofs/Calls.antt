@@ -3,7 +3,7 @@ use Prim.Native.Nat.{ℕ}
 use mathlib.Core.List.{List, [], ◌∷◌}
 use lib.ListN.{replicate}
 use Rattle.terms.specs.Terms.{first, count, member, same_bytes}
-use Rattle.answers.specs.declared.Verdict.{Verdict}
+use Rattle.answers.specs.Caps.{Verdict}
 use Rattle.answers.specs.Places.{place}
 use Rattle.answers.specs.Caps.{first_of, length_verdict}
 use Rattle.answers.specs.Refusals.{told, told_of}
@@ -16,7 +16,6 @@ use Rattle.steps.specs.Steps.{opened, next_raw_at, next_at}
 use Rattle.wants.specs.Wanted.{eat_at, expect_at}
 use Rattle.wants.proofs.Cases as wants
 use Rattle.listing.specs.declared.Listing.{Listing}
-use Rattle.listing.specs.declared.Listed.{Listed}
 use Rattle.listing.specs.Rows.{words_of, all_words, keeps, ahead, row_of, rows_of, rows_by, text_rows}
 use Rattle.listing.specs.Listings.{tabled, listed}
 use Rattle.graph.specs.Order.{placing, edges}
@@ -32,8 +31,8 @@ use Rattle.witbox.specs.declared.CountAnswer.{CountAnswer}
 use Rattle.witbox.specs.declared.NameAnswer.{NameAnswer}
 use Rattle.witbox.specs.declared.SortAnswer.{SortAnswer}
 use Rattle.witbox.specs.declared.VerdictAnswer.{VerdictAnswer}
-use Rattle.witbox.specs.Hosts.{span, open_numbers, refused_step, step_of, step_numbers, refused_count, count_of, value_of}
-use Rattle.witbox.specs.Hosts.{count_numbers, value_numbers, name_numbers, sort_of, sort_numbers, verdict_numbers}
+use Rattle.witbox.specs.Hosts.{span, open_numbers, refused_step, step_of, step_numbers, refused_count, count_of}
+use Rattle.witbox.specs.Hosts.{count_numbers, name_numbers, sort_of, sort_numbers, verdict_numbers}
 
 -- A call of a function of the static library, under its name without `witbox`, with what it is given in the order of its parameters.
 pub data Call : Type 0 where
@@ -78,7 +77,7 @@ answered (eat s o w p) = moves (step_numbers (eat_at s o w (place p)))
 answered (expect s o w p) = moves (step_numbers (expect_at s o w (place p)))
 answered (list_raw s o t) = counts (count_numbers (listed Listing.Raw s o t))
 answered (list s o t) = counts (count_numbers (listed Listing.Filtered s o t))
-answered (string_literal s o p e b) = counts (value_numbers (decoded s o (span p e) b))
+answered (string_literal s o p e b) = counts (count_numbers (decoded s o (span p e) b))
 answered (parse_id s o p e) = hands (name_numbers (plain_id s o (span p e)))
 answered (parse_explicit_id s o p e) = hands (name_numbers (explicit_id s o (span p e)))
 answered (toposort ws bs out) = sorts (sort_numbers (sorted ws bs out))
@@ -103,7 +102,7 @@ unfolding checks sorted placed_by placed room_verdict placing edges checked_orde
 sort ws bs out = sorted ws bs out
 
 -- a listing
-unfoldable pub rows : List ℕ → ℕ → List ℕ → Listed × List ℕ
+unfoldable pub rows : List ℕ → ℕ → List ℕ → Result ℕ Refusal × List ℕ
 unfolding wants.expect strings.into listed tabled text_rows rows_by rows_of row_of ahead keeps all_words words_of
 rows s o t = listed Listing.Raw s o t
 
@@ -112,8 +111,8 @@ unfoldable pub stepped : Moved → StepAnswer × ℕ
 unfolding told told_of open_numbers refused_step step_of step_numbers name_numbers sort_numbers sort_of verdict_numbers
 stepped m = step_numbers m
 
-unfoldable pub counted : Listed × List ℕ → CountAnswer × List ℕ
-unfolding count_numbers count_of refused_count value_numbers value_of
+unfoldable pub counted : Result ℕ Refusal × List ℕ → CountAnswer × List ℕ
+unfolding count_numbers count_of refused_count
 counted a = count_numbers a
 
 -- and the answer

@@ -17,9 +17,8 @@ use borrow.Author.Tests.{le-leb}
 use Rattle.terms.proofs.OneAnswer.{both}
 use Rattle.terms.specs.Terms.{ascii}
 use Rattle.answers.specs.declared.Refusal.{Refusal}
-use Rattle.answers.specs.declared.Verdict.{Verdict}
+use Rattle.answers.specs.Caps.{Verdict, accepted}
 use Rattle.listing.specs.declared.Listing.{Listing}
-use Rattle.listing.specs.declared.Listed.{Listed}
 use Rattle.listing.specs.Listings.{listed}
 use Rattle.listing.specs.contracts.list as list
 use Rattle.clerk.specs.declared.Sorted.{Sorted}
@@ -28,15 +27,15 @@ use Rattle.clerk.specs.contracts.toposort as toposort
 use Rattle.review.proofs.Paper.{answered}
 
 -- three small texts, listed
-none : (t : List ℕ) → listed Listing.Raw [] 0 t ≡ (Listed.Count 0, t)
+none : (t : List ℕ) → listed Listing.Raw [] 0 t ≡ (Ok 0, t)
 unfolding answered
 none t = rw (le-leb 0 (length t) (omega arith))
 
-mark : listed Listing.Raw (ascii ";") 0 (0 ∷ 0 ∷ 0 ∷ []) ≡ (Listed.Count 1, 6 ∷ 0 ∷ 1 ∷ [])
+mark : listed Listing.Raw (ascii ";") 0 (0 ∷ 0 ∷ 0 ∷ []) ≡ (Ok 1, 6 ∷ 0 ∷ 1 ∷ [])
 unfolding answered
 mark = refl
 
-marks : listed Listing.Raw (ascii ";;") 0 (0 ∷ 0 ∷ 0 ∷ 0 ∷ 0 ∷ 0 ∷ []) ≡ (Listed.Count 2, 6 ∷ 0 ∷ 1 ∷ 6 ∷ 1 ∷ 2 ∷ [])
+marks : listed Listing.Raw (ascii ";;") 0 (0 ∷ 0 ∷ 0 ∷ 0 ∷ 0 ∷ 0 ∷ []) ≡ (Ok 2, 6 ∷ 0 ∷ 1 ∷ 6 ∷ 1 ∷ 2 ∷ [])
 unfolding answered
 marks = refl
 
@@ -47,15 +46,15 @@ unneedy = 3 ∷ 0 ∷ 5 ∷ 17 ∷ 17 ∷ 0 ∷ 1 ∷ 0 ∷ 0 ∷ 1 ∷ 1 ∷ 0 
 abbrev pub needy : List ℕ
 needy = 3 ∷ 1 ∷ 5 ∷ 17 ∷ 21 ∷ 0 ∷ 1 ∷ 0 ∷ 1 ∷ 1 ∷ 1 ∷ 1 ∷ 0 ∷ 2 ∷ 1 ∷ 1 ∷ 0 ∷ 1 ∷ 1 ∷ 0 ∷ 0 ∷ []
 
-no_items : (t : List ℕ) → sorted (0 ∷ 0 ∷ 5 ∷ 5 ∷ 5 ∷ []) [] t ≡ (answer Verdict.Accepted 0, t)
+no_items : (t : List ℕ) → sorted (0 ∷ 0 ∷ 5 ∷ 5 ∷ 5 ∷ []) [] t ≡ (answer accepted 0, t)
 unfolding answered
 no_items t = rw (le-leb 0 (length t) (omega arith))
 
-three : sorted unneedy (ascii "abc") (9 ∷ 9 ∷ 9 ∷ []) ≡ (answer Verdict.Accepted 0, 0 ∷ 1 ∷ 2 ∷ [])
+three : sorted unneedy (ascii "abc") (9 ∷ 9 ∷ 9 ∷ []) ≡ (answer accepted 0, 0 ∷ 1 ∷ 2 ∷ [])
 unfolding answered
 three = refl
 
-first_needs : sorted needy (ascii "abc") (9 ∷ 9 ∷ 9 ∷ []) ≡ (answer Verdict.Accepted 1, 1 ∷ 0 ∷ 2 ∷ [])
+first_needs : sorted needy (ascii "abc") (9 ∷ 9 ∷ 9 ∷ []) ≡ (answer accepted 1, 1 ∷ 0 ∷ 2 ∷ [])
 unfolding answered
 first_needs = refl
 
@@ -72,7 +71,7 @@ module _ {M : Type 1} {𝓤 : Ura M} (𝓛 : Logic 𝓤) (mem : Memory → SProp
     abbrev Left : Type 0
     Left = AtExit list.ended κs
 
-    abbrev allows : (a : Asked) → (list.clauses 𝓛 mem run κs a).ghost → Listed → Left → SProp 𝓤
+    abbrev allows : (a : Asked) → (list.clauses 𝓛 mem run κs a).ghost → Result ℕ Refusal → Left → SProp 𝓤
     allows a g r e = (list.clauses 𝓛 mem run κs a).ensures g r e
 
     -- a raw listing of this text at offset 0 into this table
@@ -86,37 +85,37 @@ module _ {M : Type 1} {𝓤 : Ura M} (𝓛 : Logic 𝓤) (mem : Memory → SProp
     gives : (text table : List ℕ) (a : Asked) → Of text table a → listed a.1.1.0 a.0.now a.1.0 a.1.1.1.0.now ≡ listed Listing.Raw text 0 table
     gives text table a o = rw (o.text_is, o.offset_is, o.raw_is, o.table_is)
 
-    refused_count_lem : (f : Refusal) (n : ℕ) → Listed.Refused f ≡ Listed.Count n → ⊥
+    refused_count_lem : (f : Refusal) (n : ℕ) → ◌≡◌ {A = Result ℕ Refusal} (Err f) (Ok n) → ⊥
     refused_count_lem f n e = let z : ◌≡◌ {A = ℕ} 0 1 = cc in omega arith
 
     -- 1. One that refuses everything: no text is accepted.
     pub refuses_everything : (table : List ℕ) (a : Asked) → Of [] table a → (g : (list.clauses 𝓛 mem run κs a).ghost) (f : Refusal) (e : Left)
-        → ent 𝓤 (allows a g (Listed.Refused f) e) (fact 𝓤 ⊥)
-    refuses_everything table a o g f e = leaves (λ c. refused_count_lem f 0 (ap (λ (x : Listed × List ℕ). x.0) (c ∙ gives [] table a o ∙ none table)))
+        → ent 𝓤 (allows a g (Err f) e) (fact 𝓤 ⊥)
+    refuses_everything table a o g f e = leaves (λ c. refused_count_lem f 0 (ap (λ (x : Result ℕ Refusal × List ℕ). x.0) (c ∙ gives [] table a o ∙ none table)))
 
     -- 2. One with a fixed listing: the same is answered and left for two texts.
     pub fixed_listing : (a b : Asked) → Of [] (0 ∷ 0 ∷ 0 ∷ []) a → Of (ascii ";") (0 ∷ 0 ∷ 0 ∷ []) b
-        → (g : (list.clauses 𝓛 mem run κs a).ghost) (h : (list.clauses 𝓛 mem run κs b).ghost) (r : Listed) (e : Left)
+        → (g : (list.clauses 𝓛 mem run κs a).ghost) (h : (list.clauses 𝓛 mem run κs b).ghost) (r : Result ℕ Refusal) (e : Left)
         → ent 𝓤 (conj 𝓤 (allows a g r e) (allows b h r e)) (fact 𝓤 ⊥)
     fixed_listing a b o q g h r e =
         both 𝓤 (λ c d.
-        let zero_one : Listed.Count 0 ≡ Listed.Count 1 = ap (λ (x : Listed × List ℕ). x.0) (sym (c ∙ gives [] (0 ∷ 0 ∷ 0 ∷ []) a o ∙ none (0 ∷ 0 ∷ 0 ∷ [])) ∙ d ∙ gives (ascii ";") (0 ∷ 0 ∷ 0 ∷ []) b q ∙ mark) in
+        let zero_one : ◌≡◌ {A = Result ℕ Refusal} (Ok 0) (Ok 1) = ap (λ (x : Result ℕ Refusal × List ℕ). x.0) (sym (c ∙ gives [] (0 ∷ 0 ∷ 0 ∷ []) a o ∙ none (0 ∷ 0 ∷ 0 ∷ [])) ∙ d ∙ gives (ascii ";") (0 ∷ 0 ∷ 0 ∷ []) b q ∙ mark) in
         let z : ◌≡◌ {A = ℕ} 0 1 = cc in omega arith)
 
     -- 3. One that writes nothing: the row's words are named.
-    pub writes_nothing : (a : Asked) → Of (ascii ";") (0 ∷ 0 ∷ 0 ∷ []) a → (g : (list.clauses 𝓛 mem run κs a).ghost) (r : Listed) (e : Left)
+    pub writes_nothing : (a : Asked) → Of (ascii ";") (0 ∷ 0 ∷ 0 ∷ []) a → (g : (list.clauses 𝓛 mem run κs a).ghost) (r : Result ℕ Refusal) (e : Left)
         → e.1.1.1.0.now ≡ 0 ∷ 0 ∷ 0 ∷ [] → ent 𝓤 (allows a g r e) (fact 𝓤 ⊥)
     writes_nothing a o g r e same =
         leaves (λ c.
-        let word : ◌≡◌ {A = ℕ} 0 6 = ap (λ (x : List ℕ). get_or x 0 0) (sym same) ∙ ap (λ (x : Listed × List ℕ). get_or x.1 0 0) (c ∙ gives (ascii ";") (0 ∷ 0 ∷ 0 ∷ []) a o ∙ mark) in
+        let word : ◌≡◌ {A = ℕ} 0 6 = ap (λ (x : List ℕ). get_or x 0 0) (sym same) ∙ ap (λ (x : Result ℕ Refusal × List ℕ). get_or x.1 0 0) (c ∙ gives (ascii ";") (0 ∷ 0 ∷ 0 ∷ []) a o ∙ mark) in
         omega arith)
 
     -- 4. One that reads the first token and pads the rest: the second row's words are named too.
-    pub pads_the_rest : (a : Asked) → Of (ascii ";;") (0 ∷ 0 ∷ 0 ∷ 0 ∷ 0 ∷ 0 ∷ []) a → (g : (list.clauses 𝓛 mem run κs a).ghost) (r : Listed) (e : Left) (x y z : ℕ)
+    pub pads_the_rest : (a : Asked) → Of (ascii ";;") (0 ∷ 0 ∷ 0 ∷ 0 ∷ 0 ∷ 0 ∷ []) a → (g : (list.clauses 𝓛 mem run κs a).ghost) (r : Result ℕ Refusal) (e : Left) (x y z : ℕ)
         → e.1.1.1.0.now ≡ 6 ∷ 0 ∷ 1 ∷ x ∷ y ∷ z ∷ [] → ent 𝓤 (allows a g r e) (fact 𝓤 ((x ≡ 6) × (y ≡ 1) × (z ≡ 2)))
     pads_the_rest a o g r e x y z padded =
         leaves (λ c.
-        let left : 6 ∷ 0 ∷ 1 ∷ x ∷ y ∷ z ∷ [] ≡ 6 ∷ 0 ∷ 1 ∷ 6 ∷ 1 ∷ 2 ∷ [] = sym padded ∙ ap (λ (w : Listed × List ℕ). w.1) (c ∙ gives (ascii ";;") (0 ∷ 0 ∷ 0 ∷ 0 ∷ 0 ∷ 0 ∷ []) a o ∙ marks) in
+        let left : 6 ∷ 0 ∷ 1 ∷ x ∷ y ∷ z ∷ [] ≡ 6 ∷ 0 ∷ 1 ∷ 6 ∷ 1 ∷ 2 ∷ [] = sym padded ∙ ap (λ (w : Result ℕ Refusal × List ℕ). w.1) (c ∙ gives (ascii ";;") (0 ∷ 0 ∷ 0 ∷ 0 ∷ 0 ∷ 0 ∷ []) a o ∙ marks) in
         (ap (λ (w : List ℕ). get_or w 3 0) left, ap (λ (w : List ℕ). get_or w 4 0) left, ap (λ (w : List ℕ). get_or w 5 0) left))
 
   -- THE ORDER
@@ -141,10 +140,10 @@ module _ {M : Type 1} {𝓤 : Ura M} (𝓛 : Logic 𝓤) (mem : Memory → SProp
 
     -- 1. One that refuses everything.
     pub refuses_every_sheet : (slice : List ℕ) (a : AskedSort) → Sort (0 ∷ 0 ∷ 5 ∷ 5 ∷ 5 ∷ []) [] slice a → (g : (toposort.clauses 𝓛 mem run κs a).ghost) (f : Refusal) (n : ℕ) (e : LeftSort)
-        → ent 𝓤 (allows_sort a g (answer (Verdict.Refused f) n) e) (fact 𝓤 ⊥)
+        → ent 𝓤 (allows_sort a g (answer (Err f) n) e) (fact 𝓤 ⊥)
     refuses_every_sheet slice a o g f n e =
         leaves (λ c.
-        let same : Verdict.Refused f ≡ Verdict.Accepted = ap (λ (x : Sorted × List ℕ). x.0.verdict) (c ∙ orders (0 ∷ 0 ∷ 5 ∷ 5 ∷ 5 ∷ []) [] slice a o ∙ no_items slice) in
+        let same : Err f ≡ accepted = ap (λ (x : Sorted × List ℕ). x.0.verdict) (c ∙ orders (0 ∷ 0 ∷ 5 ∷ 5 ∷ 5 ∷ []) [] slice a o ∙ no_items slice) in
         let z : ◌≡◌ {A = ℕ} 0 1 = cc in omega arith)
 
     -- 2. One with a fixed order.

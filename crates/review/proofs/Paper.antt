@@ -23,7 +23,7 @@ use Rattle.clerk.specs.Sorted.{room_verdict, placed, placed_by, sorted}
 use Rattle.witbox.specs.declared.CountAnswer.{CountAnswer}
 use Rattle.witbox.specs.declared.NameAnswer.{NameAnswer}
 use Rattle.witbox.specs.declared.SortAnswer.{SortAnswer}
-use Rattle.witbox.specs.Hosts.{span, refused_count, count_of, value_of, count_numbers, value_numbers, name_numbers, sort_of, sort_numbers}
+use Rattle.witbox.specs.Hosts.{span, refused_count, count_of, count_numbers, name_numbers, sort_of, sort_numbers}
 
 -- What is asked: a raw listing of a text at an offset, the value of a string literal that is the whole text, an identifier that is the whole text, a load order.
 pub data Call : Type 0 where
@@ -49,9 +49,9 @@ sorteds n a = a.0.number ∷ a.0.position ∷ a.0.detail ∷ a.0.settled ∷ tak
 
 -- The answer to a call.
 unfoldable pub answered : Call → List ℕ
-unfolding counts nameds sorteds strings.into names.plain names.explicit steps.opening listed tabled text_rows rows_by rows_of row_of ahead keeps all_words words_of is_blank kind_of tokens_from tokens_by after_raw told told_of count_numbers count_of refused_count value_numbers value_of name_numbers sort_numbers sort_of sorted placed_by placed room_verdict placing edges head_verdict count_verdict headed runs_on outside shaped shape_verdict words_verdict named repeats repeat_verdict target_of unlisted target_verdict items_verdict sheet_verdict reaches table first count member same_bytes
+unfolding counts nameds sorteds strings.into names.plain names.explicit steps.opening listed tabled text_rows rows_by rows_of row_of ahead keeps all_words words_of is_blank kind_of tokens_from tokens_by after_raw told told_of count_numbers count_of refused_count name_numbers sort_numbers sort_of sorted placed_by placed room_verdict placing edges head_verdict count_verdict headed runs_on outside shaped shape_verdict words_verdict named repeats repeat_verdict target_of unlisted target_verdict items_verdict sheet_verdict reaches table first count member same_bytes
 answered (raw s o) = counts row_words (count_numbers (listed Listing.Raw s o lent))
-answered (value s) = counts 1 (value_numbers (decoded s 0 (span 0 (length s)) lent))
+answered (value s) = counts 1 (count_numbers (decoded s 0 (span 0 (length s)) lent))
 answered (plain s) = nameds (name_numbers (plain_id s 0 (span 0 (length s))))
 answered (explicit s) = nameds (name_numbers (explicit_id s 0 (span 0 (length s))))
 answered (order ws bs) = sorteds 3 (sort_numbers (sorted ws bs (9 ∷ 9 ∷ 9 ∷ [])))

@@ -1,16 +1,14 @@
 -- 01, "Numbers that come back": each answer as the numbers that a host reads. It begins with number, position and detail; what an answer has not is 0.
-use Rattle.std.specs.Prelude.{ℕ, ◌-◌, List}
+use Rattle.std.specs.Prelude.{ℕ, ◌-◌, List, None, Some, Result, Ok, Err}
 use Rattle.answers.specs.declared.Span.{Span}
 use Rattle.answers.specs.declared.Refusal.{Refusal}
-use Rattle.answers.specs.declared.Verdict.{Verdict}
+use Rattle.answers.specs.declared.Place.{Place}
+use Rattle.answers.specs.Caps.{Verdict}
 use Rattle.answers.specs.Refusals.{told, told_of}
 use Rattle.kinds.specs.Kinds.{kind_of}
-use Rattle.strings.specs.declared.Decoded.{Decoded}
-use Rattle.names.specs.declared.Named.{Named}
-use Rattle.steps.specs.declared.Opened.{Opened}
-use Rattle.steps.specs.declared.Step.{Step}
+use Rattle.names.specs.declared.Id.{Id}
+use Rattle.steps.specs.Steps.{Step}
 use Rattle.steps.specs.declared.Moved.{Moved}
-use Rattle.listing.specs.declared.Listed.{Listed}
 use Rattle.clerk.specs.declared.Sorted.{Sorted}
 use Rattle.witbox.specs.declared.OpenAnswer.{OpenAnswer}
 use Rattle.witbox.specs.declared.StepAnswer.{StepAnswer}
@@ -24,9 +22,9 @@ abbrev pub span : ℕ → ℕ → Span
 span start end = record { start = record { 0 = start }; end = record { 0 = end } }
 
 -- Opening: the cursor.
-unfoldable pub open_numbers : Opened → OpenAnswer
-open_numbers (Opened.At p) = record { number = 0; position = 0; detail = 0; cursor = p.0 }
-open_numbers (Opened.Refused f) = record { number = (told f).number; position = (told f).position; detail = (told f).detail; cursor = 0 }
+unfoldable pub open_numbers : Result Place Refusal → OpenAnswer
+open_numbers (Ok p) = record { number = 0; position = 0; detail = 0; cursor = p.0 }
+open_numbers (Err f) = record { number = (told f).number; position = (told f).position; detail = (told f).detail; cursor = 0 }
 
 -- A step without a token, at the end of the text or where eat says no: kind 67.
 abbrev pub no_token : StepAnswer
@@ -38,10 +36,9 @@ refused_step f = record { number = (told f).number; position = (told f).position
 
 -- A step: the token's kind and span.
 unfoldable pub step_of : Step → StepAnswer
-step_of (Step.Token kind span) = record { number = 0; position = 0; detail = 0; kind = kind_of kind; start = span.start.0; end = span.end.0 }
-step_of Step.End = no_token
-step_of Step.No = no_token
-step_of (Step.Refused f) = refused_step f
+step_of (Ok (Some (kind, span))) = record { number = 0; position = 0; detail = 0; kind = kind_of kind; start = span.start.0; end = span.end.0 }
+step_of (Ok None) = no_token
+step_of (Err f) = refused_step f
 
 -- The same, with the place that is left in the cursor.
 unfoldable pub step_numbers : Moved → StepAnswer × ℕ
@@ -55,28 +52,19 @@ counted n = record { number = 0; position = 0; detail = 0; count = n }
 unfoldable pub refused_count : Refusal → CountAnswer
 refused_count f = record { number = (told f).number; position = (told f).position; detail = (told f).detail; count = 0 }
 
--- A listing: how many rows.
-unfoldable pub count_of : Listed → CountAnswer
-count_of (Listed.Count n) = counted n
-count_of (Listed.Refused f) = refused_count f
+-- A listing: how many rows. A string: how many bytes.
+unfoldable pub count_of : Result ℕ Refusal → CountAnswer
+count_of (Ok n) = counted n
+count_of (Err f) = refused_count f
 
--- A string: how many bytes.
-unfoldable pub value_of : Decoded → CountAnswer
-value_of (Decoded.Value n) = counted n
-value_of (Decoded.Refused f) = refused_count f
-
--- A listing, with the table.
-unfoldable pub count_numbers : Listed × List ℕ → CountAnswer × List ℕ
+-- The same, with the table or the buffer.
+unfoldable pub count_numbers : Result ℕ Refusal × List ℕ → CountAnswer × List ℕ
 count_numbers a = (count_of a.0, a.1)
 
--- A string, with the buffer.
-unfoldable pub value_numbers : Decoded × List ℕ → CountAnswer × List ℕ
-value_numbers a = (value_of a.0, a.1)
-
 -- An identifier: the place and the length of the part.
-unfoldable pub name_numbers : Named → NameAnswer
-name_numbers (Named.Id first last) = record { number = 0; position = 0; detail = 0; place = first.0; length = last.0 - first.0 }
-name_numbers (Named.Refused f) = record { number = (told f).number; position = (told f).position; detail = (told f).detail; place = 0; length = 0 }
+unfoldable pub name_numbers : Result Id Refusal → NameAnswer
+name_numbers (Ok id) = record { number = 0; position = 0; detail = 0; place = id.first.0; length = id.last.0 - id.first.0 }
+name_numbers (Err f) = record { number = (told f).number; position = (told f).position; detail = (told f).detail; place = 0; length = 0 }
 
 -- A sort: its verdict and the settled count.
 unfoldable pub sort_of : Sorted → SortAnswer

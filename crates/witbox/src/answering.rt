@@ -1,33 +1,34 @@
 //! Each answer as numbers. What an answer has not is 0.
 ghost use Rattle.std.specs.Prelude.{◌≡◌};
-ghost use Rattle.witbox.specs.Hosts.{open_numbers, no_token, refused_step, step_of, step_numbers, counted, refused_count, count_of, value_of, name_numbers, sort_of, verdict_numbers};
+ghost use Rattle.witbox.specs.Hosts.{open_numbers, no_token, refused_step, step_of, step_numbers, count_of, name_numbers, sort_of, verdict_numbers};
 ghost use Rattle.witbox.specs.inner.Forward.{Forward};
 
 use crate::{CountAnswer, NameAnswer, OpenAnswer, SortAnswer, StepAnswer, VerdictAnswer};
-use answers::{Refusal, Verdict};
+use answers::{Numbers, Place, Refusal, Verdict};
 use clerk::Sorted;
-use listing::Listed;
-use names::Named;
-use steps::{Moved, Opened, Step};
-use strings::Decoded;
+use names::Id;
+use steps::{Moved, Step};
 
-pub(crate) fn open_answer(opened: Opened) -> OpenAnswer
-    ensures { result ≡ open_numbers opened }
-{
-    match opened {
-        Opened::At(at) => OpenAnswer {
-            number: 0,
-            position: 0,
-            detail: 0,
-            cursor: at.0,
-        },
-        Opened::Refused(refusal) => {
-            let told = refusal.numbers();
-            OpenAnswer {
-                number: told.number,
-                position: told.position,
-                detail: told.detail,
-                cursor: 0,
+impl From<Result<Place, Refusal>> for OpenAnswer {
+    ghost from_gives = { λ opened answer. answer ≡ open_numbers opened };
+
+    #[tactic(auto, unfolding(crate::specs::Hosts::open_numbers))]
+    fn from(opened: Result<Place, Refusal>) -> OpenAnswer {
+        match opened {
+            Ok(at) => OpenAnswer {
+                number: 0,
+                position: 0,
+                detail: 0,
+                cursor: at.0,
+            },
+            Err(refusal) => {
+                let told = refusal.numbers();
+                OpenAnswer {
+                    number: told.number,
+                    position: told.position,
+                    detail: told.detail,
+                    cursor: 0,
+                }
             }
         }
     }
@@ -47,6 +48,7 @@ fn nothing() -> StepAnswer
     }
 }
 
+#[tactic(auto, unfolding(crate::specs::Hosts::refused_step))]
 fn refused_step(refusal: Refusal) -> StepAnswer
     ensures { result ≡ refused_step refusal }
 {
@@ -61,87 +63,76 @@ fn refused_step(refusal: Refusal) -> StepAnswer
     }
 }
 
-fn step_of(step: Step) -> StepAnswer
-    ensures { result ≡ step_of step }
-{
-    match step {
-        Step::Token(kind, span) => StepAnswer {
-            number: 0,
-            position: 0,
-            detail: 0,
-            kind: kind.kind() as u32,
-            start: span.start.0,
-            end: span.end.0,
-        },
-        Step::End => nothing(),
-        Step::No => nothing(),
-        Step::Refused(refusal) => refused_step(refusal),
+impl From<Step> for StepAnswer {
+    ghost from_gives = { λ step answer. answer ≡ step_of step };
+
+    #[tactic(auto, unfolding(crate::specs::Hosts::step_of))]
+    fn from(step: Step) -> StepAnswer {
+        match step {
+            Ok(Some((kind, span))) => StepAnswer {
+                number: 0,
+                position: 0,
+                detail: 0,
+                kind: kind.kind() as u32,
+                start: span.start.0,
+                end: span.end.0,
+            },
+            Ok(None) => nothing(),
+            Err(refusal) => refused_step(refusal),
+        }
     }
 }
 
+// The place that a step leaves goes to the cursor, whatever it answers.
+#[tactic(auto, unfolding(crate::specs::Hosts::step_numbers))]
 pub(crate) fn step_answer(found: Moved, cursor: &mut u32) -> StepAnswer
     ensures { (result, cursor.new) ≡ step_numbers found }
 {
-    let step = found.step;
-    let at = found.at;
-    *cursor = at.0;
-    step_of(step)
+    *cursor = found.at.0;
+    StepAnswer::from(found.step)
 }
 
-fn accepted(count: u32) -> CountAnswer
-    ensures { result ≡ counted count }
-{
-    CountAnswer {
-        number: 0,
-        position: 0,
-        detail: 0,
-        count,
+// How many rows a listing has, or bytes a string.
+impl From<Result<u32, Refusal>> for CountAnswer {
+    ghost from_gives = { λ counted answer. answer ≡ count_of counted };
+
+    #[tactic(auto, unfolding(crate::specs::Hosts::count_of))]
+    fn from(counted: Result<u32, Refusal>) -> CountAnswer {
+        match counted {
+            Ok(count) => CountAnswer {
+                number: 0,
+                position: 0,
+                detail: 0,
+                count,
+            },
+            Err(refusal) => {
+                let told = refusal.numbers();
+                CountAnswer {
+                    number: told.number,
+                    position: told.position,
+                    detail: told.detail,
+                    count: 0,
+                }
+            }
+        }
     }
 }
 
-fn refused(refusal: Refusal) -> CountAnswer
-    ensures { result ≡ refused_count refusal }
-{
-    let told = refusal.numbers();
-    CountAnswer {
-        number: told.number,
-        position: told.position,
-        detail: told.detail,
-        count: 0,
-    }
-}
-
-pub(crate) fn list_answer(listed: Listed) -> CountAnswer
-    ensures { result ≡ count_of listed }
-{
-    match listed {
-        Listed::Count(count) => accepted(count),
-        Listed::Refused(refusal) => refused(refusal),
-    }
-}
-
-pub(crate) fn value_answer(value: Decoded) -> CountAnswer
-    ensures { result ≡ value_of value }
-{
-    match value {
-        Decoded::Value(count) => accepted(count),
-        Decoded::Refused(refusal) => refused(refusal),
-    }
-}
-
-pub(crate) fn name_answer(named: Named) -> NameAnswer
+// No conversion: only an identifier that does not run backwards has a length.
+#[tactic(auto, unfolding(crate::specs::Hosts::name_numbers, crate::specs::inner::Forward::Forward))]
+pub(crate) fn name_answer(named: Result<Id, Refusal>) -> NameAnswer
     requires { Forward named }
     ensures { result ≡ name_numbers named }
 {
     match named {
-        Named::Id(first, last) => NameAnswer {
+        Ok(id) => NameAnswer {
             number: 0,
             position: 0,
             detail: 0,
-            place: first.0,
-            length: last.0 - first.0,
+            place: id.first.0,
+            length: id.last.0 - id.first.0,
         },
-        Named::Refused(refusal) => {
+        Err(refusal) => {
             let told = refusal.numbers();
             NameAnswer {
                 number: told.number,
@@ -154,27 +145,31 @@ pub(crate) fn name_answer(named: Named) -> NameAnswer
     }
 }
 
-pub(crate) fn sort_answer(sorted: Sorted) -> SortAnswer
-    ensures { result ≡ sort_of sorted }
-{
-    let verdict = sorted.verdict;
-    let settled = sorted.settled;
-    let told = verdict.numbers();
-    SortAnswer {
-        number: told.number,
-        position: told.position,
-        detail: told.detail,
-        settled,
+impl From<Sorted> for SortAnswer {
+    ghost from_gives = { λ sorted answer. answer ≡ sort_of sorted };
+
+    #[tactic(auto, unfolding(crate::specs::Hosts::sort_of))]
+    fn from(sorted: Sorted) -> SortAnswer {
+        let told = Numbers::from(sorted.verdict);
+        SortAnswer {
+            number: told.number,
+            position: told.position,
+            detail: told.detail,
+            settled: sorted.settled,
+        }
     }
 }
 
-pub(crate) fn verdict_answer(verdict: Verdict) -> VerdictAnswer
-    ensures { result ≡ verdict_numbers verdict }
-{
-    let told = verdict.numbers();
-    VerdictAnswer {
-        number: told.number,
-        position: told.position,
-        detail: told.detail,
+impl From<Verdict> for VerdictAnswer {
+    ghost from_gives = { λ verdict answer. answer ≡ verdict_numbers verdict };
+
+    #[tactic(auto, unfolding(crate::specs::Hosts::verdict_numbers))]
+    fn from(verdict: Verdict) -> VerdictAnswer {
+        let told = Numbers::from(verdict);
+        VerdictAnswer {
+            number: told.number,
+            position: told.position,
+            detail: told.detail,
+        }
     }
 }

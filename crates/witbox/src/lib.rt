@@ -15,14 +15,14 @@ ghost use Rattle.listing.specs.declared.Listing.TheVariants.{Raw, Filtered};
 ghost use Rattle.listing.specs.Listings.{listed};
 ghost use Rattle.clerk.specs.Sorted.{sorted};
 ghost use Rattle.planner.specs.Proposed.{checked_order, proposed};
-ghost use Rattle.witbox.specs.Hosts.{span, open_numbers, step_numbers, count_numbers, value_numbers, name_numbers, sort_numbers, verdict_numbers};
+ghost use Rattle.witbox.specs.Hosts.{span, open_numbers, step_numbers, count_numbers, name_numbers, sort_numbers, verdict_numbers};
 
 use answers::{Place, Position, Span};
 use listing::Listing;
 
 // struct witbox_opened
 #[repr(C)]
-#[derive(Clone, Copy)]
+#[derive(Clone, Copy, Debug, PartialEq, Eq)]
 pub struct OpenAnswer {
     pub number: u32,
     pub position: u32,
@@ -32,7 +32,7 @@ pub struct OpenAnswer {
 
 // struct witbox_step
 #[repr(C)]
-#[derive(Clone, Copy)]
+#[derive(Clone, Copy, Debug, PartialEq, Eq)]
 pub struct StepAnswer {
     pub number: u32,
     pub position: u32,
@@ -44,7 +44,7 @@ pub struct StepAnswer {
 
 // struct witbox_listed and struct witbox_decoded
 #[repr(C)]
-#[derive(Clone, Copy)]
+#[derive(Clone, Copy, Debug, PartialEq, Eq)]
 pub struct CountAnswer {
     pub number: u32,
     pub position: u32,
@@ -54,7 +54,7 @@ pub struct CountAnswer {
 
 // struct witbox_named
 #[repr(C)]
-#[derive(Clone, Copy)]
+#[derive(Clone, Copy, Debug, PartialEq, Eq)]
 pub struct NameAnswer {
     pub number: u32,
     pub position: u32,
@@ -65,7 +65,7 @@ pub struct NameAnswer {
 
 // struct witbox_sorted
 #[repr(C)]
-#[derive(Clone, Copy)]
+#[derive(Clone, Copy, Debug, PartialEq, Eq)]
 pub struct SortAnswer {
     pub number: u32,
     pub position: u32,
@@ -75,7 +75,7 @@ pub struct SortAnswer {
 
 // struct witbox_verdict
 #[repr(C)]
-#[derive(Clone, Copy)]
+#[derive(Clone, Copy, Debug, PartialEq, Eq)]
 pub struct VerdictAnswer {
     pub number: u32,
     pub position: u32,
@@ -86,7 +86,7 @@ pub struct VerdictAnswer {
 pub extern "C" fn witbox_open(text: &[u8], offset: u32) -> OpenAnswer
     ensures { result ≡ open_numbers (opened text.now offset) }
 {
-    answering::open_answer(steps::open(text, offset))
+    OpenAnswer::from(steps::open(text, offset))
 }
 
 #[unsafe(no_mangle)]
@@ -129,14 +129,14 @@ pub extern "C" fn witbox_expect(
 pub extern "C" fn witbox_list_raw(text: &[u8], offset: u32, table: &mut [u32]) -> CountAnswer
     ensures { (result, table.new) ≡ count_numbers (listed Raw text.now offset table.old) }
 {
-    answering::list_answer(listing::list(text, offset, Listing::Raw, table))
+    CountAnswer::from(listing::list(text, offset, Listing::Raw, table))
 }
 
 #[unsafe(no_mangle)]
 pub extern "C" fn witbox_list(text: &[u8], offset: u32, table: &mut [u32]) -> CountAnswer
     ensures { (result, table.new) ≡ count_numbers (listed Filtered text.now offset table.old) }
 {
-    answering::list_answer(listing::list(text, offset, Listing::Filtered, table))
+    CountAnswer::from(listing::list(text, offset, Listing::Filtered, table))
 }
 
 #[unsafe(no_mangle)]
@@ -147,13 +147,13 @@ pub extern "C" fn witbox_string_literal(
     end: u32,
     buffer: &mut [u8],
 ) -> CountAnswer
-    ensures { (result, buffer.new) ≡ value_numbers (decoded text.now offset (span start end) buffer.old) }
+    ensures { (result, buffer.new) ≡ count_numbers (decoded text.now offset (span start end) buffer.old) }
 {
     let span = Span {
         start: Position(start),
         end: Position(end),
     };
-    answering::value_answer(strings::string_literal(text, offset, span, buffer))
+    CountAnswer::from(strings::string_literal(text, offset, span, buffer))
 }
 
 #[unsafe(no_mangle)]
@@ -187,19 +187,19 @@ pub extern "C" fn witbox_parse_explicit_id(
 pub extern "C" fn witbox_toposort(sheet: &[u32], names: &[u8], order: &mut [u32]) -> SortAnswer
     ensures { (result, order.new) ≡ sort_numbers (sorted sheet.now names.now order.old) }
 {
-    answering::sort_answer(clerk::toposort(sheet, names, order))
+    SortAnswer::from(clerk::toposort(sheet, names, order))
 }
 
 #[unsafe(no_mangle)]
 pub extern "C" fn witbox_check_order(sheet: &[u32], names: &[u8], list: &[u32]) -> VerdictAnswer
     ensures { result ≡ verdict_numbers (checked_order sheet.now names.now list.now) }
 {
-    answering::verdict_answer(planner::check_order(sheet, names, list))
+    VerdictAnswer::from(planner::check_order(sheet, names, list))
 }
 
 #[unsafe(no_mangle)]
 pub extern "C" fn witbox_propose(sheet: &[u32], names: &[u8], list: &mut [u32]) -> SortAnswer
     ensures { (result, list.new) ≡ sort_numbers (proposed sheet.now names.now list.old) }
 {
-    answering::sort_answer(planner::propose(sheet, names, list))
+    SortAnswer::from(planner::propose(sheet, names, list))
 }

@@ -13,7 +13,7 @@ ghost use Rattle.listing.specs.declared.Listing.TheVariants.{Raw, Filtered};
 ghost use Rattle.listing.specs.Listings.{listed};
 ghost use Rattle.clerk.specs.Sorted.{sorted};
 ghost use Rattle.planner.specs.Proposed.{checked_order, proposed};
-ghost use Rattle.witbox.specs.Hosts.{span, open_numbers, step_numbers, count_numbers, value_numbers, name_numbers, sort_numbers, verdict_numbers};
+ghost use Rattle.witbox.specs.Hosts.{span, open_numbers, step_numbers, count_numbers, name_numbers, sort_numbers, verdict_numbers};
 
 use witbox::{CountAnswer, NameAnswer, OpenAnswer, SortAnswer, StepAnswer, VerdictAnswer};
 
@@ -79,7 +79,7 @@ pub extern "C" fn witbox_string_literal(
     end: u32,
     buffer: &mut [u8],
 ) -> CountAnswer
-    ensures { (result, buffer.new) ≡ value_numbers (decoded text.now offset (span start end) buffer.old) }
+    ensures { (result, buffer.new) ≡ count_numbers (decoded text.now offset (span start end) buffer.old) }
 {
     witbox::witbox_string_literal(text, offset, start, end, buffer)
 }
