@@ -96,7 +96,7 @@ pub(crate) fn step_answer(found: Moved, cursor: &mut u32) -> StepAnswer
 impl From<Result<u32, Refusal>> for CountAnswer {
     ghost from_gives = { λ counted answer. answer ≡ count_of counted };
 
-    #[tactic(auto, unfolding(crate::specs::Hosts::count_of))]
+    #[tactic(auto, unfolding(crate::specs::Hosts::count_of, crate::specs::Hosts::refused_count))]
     fn from(counted: Result<u32, Refusal>) -> CountAnswer {
         match counted {
             Ok(count) => CountAnswer {

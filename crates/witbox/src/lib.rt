@@ -126,6 +126,7 @@ pub extern "C" fn witbox_expect(
 }
 
 #[unsafe(no_mangle)]
+#[tactic(auto, unfolding(crate::specs::Hosts::count_numbers))]
 pub extern "C" fn witbox_list_raw(text: &[u8], offset: u32, table: &mut [u32]) -> CountAnswer
     ensures { (result, table.new) ≡ count_numbers (listed Raw text.now offset table.old) }
 {
@@ -133,6 +134,7 @@ pub extern "C" fn witbox_list_raw(text: &[u8], offset: u32, table: &mut [u32]) -
 }
 
 #[unsafe(no_mangle)]
+#[tactic(auto, unfolding(crate::specs::Hosts::count_numbers))]
 pub extern "C" fn witbox_list(text: &[u8], offset: u32, table: &mut [u32]) -> CountAnswer
     ensures { (result, table.new) ≡ count_numbers (listed Filtered text.now offset table.old) }
 {
@@ -140,6 +142,7 @@ pub extern "C" fn witbox_list(text: &[u8], offset: u32, table: &mut [u32]) -> Co
 }
 
 #[unsafe(no_mangle)]
+#[tactic(auto, unfolding(crate::specs::Hosts::count_numbers))]
 pub extern "C" fn witbox_string_literal(
     text: &[u8],
     offset: u32,
@@ -157,6 +160,7 @@ pub extern "C" fn witbox_string_literal(
 }
 
 #[unsafe(no_mangle)]
+#[tactic(auto, using(crate::proofs::ForwardLaws::plain_forward))]
 pub extern "C" fn witbox_parse_id(text: &[u8], offset: u32, start: u32, end: u32) -> NameAnswer
     ensures { result ≡ name_numbers (plain_id text.now offset (span start end)) }
 {
@@ -168,6 +172,7 @@ pub extern "C" fn witbox_parse_id(text: &[u8], offset: u32, start: u32, end: u32
 }
 
 #[unsafe(no_mangle)]
+#[tactic(auto, using(crate::proofs::ForwardLaws::explicit_forward))]
 pub extern "C" fn witbox_parse_explicit_id(
     text: &[u8],
     offset: u32,
@@ -184,6 +189,7 @@ pub extern "C" fn witbox_parse_explicit_id(
 }
 
 #[unsafe(no_mangle)]
+#[tactic(auto, unfolding(crate::specs::Hosts::sort_numbers))]
 pub extern "C" fn witbox_toposort(sheet: &[u32], names: &[u8], order: &mut [u32]) -> SortAnswer
     ensures { (result, order.new) ≡ sort_numbers (sorted sheet.now names.now order.old) }
 {
@@ -198,6 +204,7 @@ pub extern "C" fn witbox_check_order(sheet: &[u32], names: &[u8], list: &[u32]) 
 }
 
 #[unsafe(no_mangle)]
+#[tactic(auto, unfolding(crate::specs::Hosts::sort_numbers))]
 pub extern "C" fn witbox_propose(sheet: &[u32], names: &[u8], list: &mut [u32]) -> SortAnswer
     ensures { (result, list.new) ≡ sort_numbers (proposed sheet.now names.now list.old) }
 {
