@@ -17,7 +17,7 @@ pub struct Sorted {
     pub settled: u32,
 }
 
-// The edges of so many items, as two tables: edge k is one of item owners[k], and its target is item targets[k].
+// The edges of so many items: edge k is one of item owners[k], and its target is item targets[k]. Two tables, as `sheets::resolve` promises them.
 #[derive(Clone, Copy)]
 pub struct Edges<'a> {
     pub items: usize,
@@ -27,12 +27,12 @@ pub struct Edges<'a> {
     pub ghost rows: { Rows owners.now targets.now },
 }
 
-// The state of the placing.
+// The state of the placing. What it says of the edges (`Tracks`) is no ghost field, for it does not hold at each turn of the loop of `place`.
 #[derive(Drop)]
 pub struct State {
     // of each item, how many of its edges have a target that is not placed; 4,096 more where the item itself is placed
     pub left: [u16; 256],
-    // the items that are placed, in their order
+    // the items that are placed, in their order: an array and how much of it is used, for there is no heap
     pub order: [u8; 256],
     pub placed: usize,
     // the edges whose target is placed

@@ -8,7 +8,7 @@ ghost use Rattle.clerk.specs.inner.State.{placed_of};
 use crate::{Edges, Sorted, State};
 use answers::Refusal;
 
-// A refusal before the placing has no settled count.
+// A refusal before the placing has no settled count. No From: 30 has one.
 pub(crate) fn refused(refusal: Refusal) -> Sorted
     ensures { result ≡ T.answer (Err refusal) 0 }
 {

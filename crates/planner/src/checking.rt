@@ -23,16 +23,15 @@ fn sooner(item: Option<u8>, target: Option<u8>, fault: usize) -> usize
     }
 }
 
-// The first index at fault: where the seats end, or sooner where an edge's target does not stand before its item.
+// The first index at fault: where the seats end, or sooner where an edge's target does not stand before its item. No Option: the length of a list
+// without a fault is what 33 tells of it (`list_verdict`).
 fn first_fault(s: &Seats, edges: Edges, list: &[u32]) -> usize
     requires { Filled edges.items list.now s.now }
     ensures { result ≡ first_fault (edges_in edges.entry) edges.entry.items list.now }
 {
     let mut fault = s.end;
-    for k in 0..edges.owners.len() {
-        let item = s.index[edges.owners[k] as usize];
-        let target = s.index[edges.targets[k] as usize];
-        fault = sooner(item, target, fault);
+    for (item, target) in edges.owners.iter().zip(edges.targets) {
+        fault = sooner(s.index[*item as usize], s.index[*target as usize], fault);
     }
     fault
 }

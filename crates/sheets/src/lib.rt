@@ -20,6 +20,7 @@ pub fn resolve(sheet: &[u32], names: &[u8], owners: &mut [u8], targets: &mut [u8
     ensures { Resolved sheet.now names.now owners.old targets.old result owners.new targets.new }
 {
     let sheet = Sheet::read(sheet, names)?;
+    // an array, of which the first items are used, for there is no heap
     let mut signatures = [0u8; 256];
     names::sign(sheet, &mut signatures)?;
     let listed = sheet.listed();

@@ -100,10 +100,11 @@ impl<'a> Sheet<'a> {
         requires { first (reaches self.words.all.now k) from (W.items self.words.all.now - from) < W.items self.words.all.now }
         ensures { result ≡ first (reaches self.entry.words.all.now k) from (W.items self.entry.words.all.now - from) }
     {
-        let mut i = from;
-        while self.words.first_edge(i) + self.words.edge_count(i) <= k {
-            i += 1;
+        for i in from..self.items() {
+            if k < self.words.first_edge(i) + self.words.edge_count(i) {
+                return i;
+            }
         }
-        i
+        unreachable!()
     }
 }

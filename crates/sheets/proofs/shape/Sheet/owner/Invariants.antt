@@ -8,6 +8,3 @@ abbrev pub invariant-loop-i : goal.invariant-loop-i
 invariant-loop-i l =
     first (reaches l.self.words.all.now l.k) l.from (items l.self.words.all.now - l.from)
     ≡ first (reaches l.self.words.all.now l.k) l.i (items l.self.words.all.now - l.i)
-
-abbrev pub decreases-loop-i : goal.decreases-loop-i
-decreases-loop-i l = items l.self.words.all.now - l.i
