@@ -17,7 +17,7 @@ use Rattle.wants.specs.Wanted.{eat_at, expect_at}
 use Rattle.wants.proofs.Cases as wants
 use Rattle.listing.specs.declared.Listing.{Listing}
 use Rattle.listing.specs.Rows.{words_of, all_words, keeps, ahead, row_of, rows_of, rows_by, text_rows}
-use Rattle.listing.specs.Listings.{tabled, listed}
+use Rattle.listing.specs.Listings.{Listed, tabled, listed}
 use Rattle.graph.specs.Order.{placing, edges}
 use Rattle.sheets.specs.Checks.{head_verdict, count_verdict, headed, runs_on, outside, shaped, shape_verdict, words_verdict}
 use Rattle.sheets.specs.Checks.{named, repeats, repeat_verdict, target_of, unlisted, target_verdict, items_verdict, sheet_verdict}
@@ -102,7 +102,7 @@ unfolding checks sorted placed_by placed room_verdict placing edges checked_orde
 sort ws bs out = sorted ws bs out
 
 -- a listing
-unfoldable pub rows : List ℕ → ℕ → List ℕ → Result ℕ Refusal × List ℕ
+unfoldable pub rows : List ℕ → ℕ → List ℕ → Listed × List ℕ
 unfolding wants.expect strings.into listed tabled text_rows rows_by rows_of row_of ahead keeps all_words words_of
 rows s o t = listed Listing.Raw s o t
 
@@ -111,7 +111,7 @@ unfoldable pub stepped : Moved → StepAnswer × ℕ
 unfolding told told_of open_numbers refused_step step_of step_numbers name_numbers sort_numbers sort_of verdict_numbers
 stepped m = step_numbers m
 
-unfoldable pub counted : Result ℕ Refusal × List ℕ → CountAnswer × List ℕ
+unfoldable pub counted : Listed × List ℕ → CountAnswer × List ℕ
 unfolding count_numbers count_of refused_count
 counted a = count_numbers a
 

@@ -14,12 +14,13 @@ use denote.Triple.Entry.{Args}
 use denote.Triple.Clauses.{AtExit}
 use lib.ListN.{length, get_or}
 use borrow.Author.Tests.{le-leb}
+use Rattle.std.specs.Prelude.{Ok, Err}
 use Rattle.terms.proofs.OneAnswer.{both}
 use Rattle.terms.specs.Terms.{ascii}
 use Rattle.answers.specs.declared.Refusal.{Refusal}
-use Rattle.answers.specs.Caps.{Verdict, accepted}
+use Rattle.answers.specs.Caps.{accepted}
 use Rattle.listing.specs.declared.Listing.{Listing}
-use Rattle.listing.specs.Listings.{listed}
+use Rattle.listing.specs.Listings.{Listed, listed}
 use Rattle.listing.specs.contracts.list as list
 use Rattle.clerk.specs.declared.Sorted.{Sorted}
 use Rattle.clerk.specs.Sorted.{answer, sorted}
@@ -71,7 +72,7 @@ module _ {M : Type 1} {𝓤 : Ura M} (𝓛 : Logic 𝓤) (mem : Memory → SProp
     abbrev Left : Type 0
     Left = AtExit list.ended κs
 
-    abbrev allows : (a : Asked) → (list.clauses 𝓛 mem run κs a).ghost → Result ℕ Refusal → Left → SProp 𝓤
+    abbrev allows : (a : Asked) → (list.clauses 𝓛 mem run κs a).ghost → Listed → Left → SProp 𝓤
     allows a g r e = (list.clauses 𝓛 mem run κs a).ensures g r e
 
     -- a raw listing of this text at offset 0 into this table
@@ -85,37 +86,37 @@ module _ {M : Type 1} {𝓤 : Ura M} (𝓛 : Logic 𝓤) (mem : Memory → SProp
     gives : (text table : List ℕ) (a : Asked) → Of text table a → listed a.1.1.0 a.0.now a.1.0 a.1.1.1.0.now ≡ listed Listing.Raw text 0 table
     gives text table a o = rw (o.text_is, o.offset_is, o.raw_is, o.table_is)
 
-    refused_count_lem : (f : Refusal) (n : ℕ) → ◌≡◌ {A = Result ℕ Refusal} (Err f) (Ok n) → ⊥
+    refused_count_lem : (f : Refusal) (n : ℕ) → ◌≡◌ {A = Listed} (Err f) (Ok n) → ⊥
     refused_count_lem f n e = let z : ◌≡◌ {A = ℕ} 0 1 = cc in omega arith
 
     -- 1. One that refuses everything: no text is accepted.
     pub refuses_everything : (table : List ℕ) (a : Asked) → Of [] table a → (g : (list.clauses 𝓛 mem run κs a).ghost) (f : Refusal) (e : Left)
         → ent 𝓤 (allows a g (Err f) e) (fact 𝓤 ⊥)
-    refuses_everything table a o g f e = leaves (λ c. refused_count_lem f 0 (ap (λ (x : Result ℕ Refusal × List ℕ). x.0) (c ∙ gives [] table a o ∙ none table)))
+    refuses_everything table a o g f e = leaves (λ c. refused_count_lem f 0 (ap (λ (x : Listed × List ℕ). x.0) (c ∙ gives [] table a o ∙ none table)))
 
     -- 2. One with a fixed listing: the same is answered and left for two texts.
     pub fixed_listing : (a b : Asked) → Of [] (0 ∷ 0 ∷ 0 ∷ []) a → Of (ascii ";") (0 ∷ 0 ∷ 0 ∷ []) b
-        → (g : (list.clauses 𝓛 mem run κs a).ghost) (h : (list.clauses 𝓛 mem run κs b).ghost) (r : Result ℕ Refusal) (e : Left)
+        → (g : (list.clauses 𝓛 mem run κs a).ghost) (h : (list.clauses 𝓛 mem run κs b).ghost) (r : Listed) (e : Left)
         → ent 𝓤 (conj 𝓤 (allows a g r e) (allows b h r e)) (fact 𝓤 ⊥)
     fixed_listing a b o q g h r e =
         both 𝓤 (λ c d.
-        let zero_one : ◌≡◌ {A = Result ℕ Refusal} (Ok 0) (Ok 1) = ap (λ (x : Result ℕ Refusal × List ℕ). x.0) (sym (c ∙ gives [] (0 ∷ 0 ∷ 0 ∷ []) a o ∙ none (0 ∷ 0 ∷ 0 ∷ [])) ∙ d ∙ gives (ascii ";") (0 ∷ 0 ∷ 0 ∷ []) b q ∙ mark) in
+        let zero_one : ◌≡◌ {A = Listed} (Ok 0) (Ok 1) = ap (λ (x : Listed × List ℕ). x.0) (sym (c ∙ gives [] (0 ∷ 0 ∷ 0 ∷ []) a o ∙ none (0 ∷ 0 ∷ 0 ∷ [])) ∙ d ∙ gives (ascii ";") (0 ∷ 0 ∷ 0 ∷ []) b q ∙ mark) in
         let z : ◌≡◌ {A = ℕ} 0 1 = cc in omega arith)
 
     -- 3. One that writes nothing: the row's words are named.
-    pub writes_nothing : (a : Asked) → Of (ascii ";") (0 ∷ 0 ∷ 0 ∷ []) a → (g : (list.clauses 𝓛 mem run κs a).ghost) (r : Result ℕ Refusal) (e : Left)
+    pub writes_nothing : (a : Asked) → Of (ascii ";") (0 ∷ 0 ∷ 0 ∷ []) a → (g : (list.clauses 𝓛 mem run κs a).ghost) (r : Listed) (e : Left)
         → e.1.1.1.0.now ≡ 0 ∷ 0 ∷ 0 ∷ [] → ent 𝓤 (allows a g r e) (fact 𝓤 ⊥)
     writes_nothing a o g r e same =
         leaves (λ c.
-        let word : ◌≡◌ {A = ℕ} 0 6 = ap (λ (x : List ℕ). get_or x 0 0) (sym same) ∙ ap (λ (x : Result ℕ Refusal × List ℕ). get_or x.1 0 0) (c ∙ gives (ascii ";") (0 ∷ 0 ∷ 0 ∷ []) a o ∙ mark) in
+        let word : ◌≡◌ {A = ℕ} 0 6 = ap (λ (x : List ℕ). get_or x 0 0) (sym same) ∙ ap (λ (x : Listed × List ℕ). get_or x.1 0 0) (c ∙ gives (ascii ";") (0 ∷ 0 ∷ 0 ∷ []) a o ∙ mark) in
         omega arith)
 
     -- 4. One that reads the first token and pads the rest: the second row's words are named too.
-    pub pads_the_rest : (a : Asked) → Of (ascii ";;") (0 ∷ 0 ∷ 0 ∷ 0 ∷ 0 ∷ 0 ∷ []) a → (g : (list.clauses 𝓛 mem run κs a).ghost) (r : Result ℕ Refusal) (e : Left) (x y z : ℕ)
+    pub pads_the_rest : (a : Asked) → Of (ascii ";;") (0 ∷ 0 ∷ 0 ∷ 0 ∷ 0 ∷ 0 ∷ []) a → (g : (list.clauses 𝓛 mem run κs a).ghost) (r : Listed) (e : Left) (x y z : ℕ)
         → e.1.1.1.0.now ≡ 6 ∷ 0 ∷ 1 ∷ x ∷ y ∷ z ∷ [] → ent 𝓤 (allows a g r e) (fact 𝓤 ((x ≡ 6) × (y ≡ 1) × (z ≡ 2)))
     pads_the_rest a o g r e x y z padded =
         leaves (λ c.
-        let left : 6 ∷ 0 ∷ 1 ∷ x ∷ y ∷ z ∷ [] ≡ 6 ∷ 0 ∷ 1 ∷ 6 ∷ 1 ∷ 2 ∷ [] = sym padded ∙ ap (λ (w : Result ℕ Refusal × List ℕ). w.1) (c ∙ gives (ascii ";;") (0 ∷ 0 ∷ 0 ∷ 0 ∷ 0 ∷ 0 ∷ []) a o ∙ marks) in
+        let left : 6 ∷ 0 ∷ 1 ∷ x ∷ y ∷ z ∷ [] ≡ 6 ∷ 0 ∷ 1 ∷ 6 ∷ 1 ∷ 2 ∷ [] = sym padded ∙ ap (λ (w : Listed × List ℕ). w.1) (c ∙ gives (ascii ";;") (0 ∷ 0 ∷ 0 ∷ 0 ∷ 0 ∷ 0 ∷ []) a o ∙ marks) in
         (ap (λ (w : List ℕ). get_or w 3 0) left, ap (λ (w : List ℕ). get_or w 4 0) left, ap (λ (w : List ℕ). get_or w 5 0) left))
 
   -- THE ORDER
