@@ -7,6 +7,7 @@ use crate::tally::Tally;
 // The bytes at the edges of the ranges of RFC 3629, section 4.
 pub const EDGES: [u8; 10] = [0x00, 0x7F, 0x80, 0x8F, 0x90, 0x9F, 0xA0, 0xBF, 0xC0, 0xFF];
 
+// Every byte, from the lowest on.
 pub(crate) fn every_byte() -> [u8; 256] {
     let mut bytes = [0; 256];
     for (byte, value) in bytes.iter_mut().zip(0..=u8::MAX) {
