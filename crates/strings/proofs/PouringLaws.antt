@@ -29,6 +29,7 @@ use Rattle.strings.specs.declared.Element.TheVariants.{Adds, Close as Closes}
 use Rattle.strings.specs.Strings.{plain_turn, turn_of, added, Gathered, bytes, refused, gather}
 use Rattle.strings.specs.inner.Walking.{Comes, Leads, Raw}
 use Rattle.strings.specs.inner.Writing.{Roomy, filled, is_mark, unmarked, copied, stored}
+use Rattle.strings.proofs.WritingLaws.{over_rest}
 use Rattle.strings.proofs.TurnLaws.{turn_fail}
 use Rattle.strings.proofs.RawLaws.{Bare, raw_none, raw_one, raw_join}
 use Rattle.strings.proofs.StringLaws.{not_refused, accepted_char, ended}
@@ -154,6 +155,13 @@ module _ (s : List ℕ) (o : ℕ) (p : Place) (b : List ℕ) (room : Roomy (gath
   front : length (take n v) ≡ n
   front = length-take-le n v d.fits
 
+  -- the rest of the buffer
+  abbrev rest_of : List ℕ
+  rest_of = take (length v - n) (drop n v)
+
+  left : length rest_of ≡ length v - n
+  left = length-take-le (length v - n) (drop n v) (rw length-drop (omega arith))
+
   -- what comes next has room
   next_room : (xs : List ℕ) (m : Place) → Comes s o Plain at Plain xs m → n + length xs ≤ length v
   next_room xs m c =
@@ -183,26 +191,33 @@ module _ (s : List ℕ) (o : ℕ) (p : Place) (b : List ℕ) (room : Roomy (gath
       go zero i = omega arith
       go (suc k) i = rw length-drop (omega (arith, i (omega arith)))
 
-  pub poured_room : n + unmarked s at ≤ length v
+  pub poured_room : unmarked s at ≤ length rest_of
   poured_room =
       let k = unmarked s at in
-      omega (arith, next_room (take k (drop at.0 s)) (on_by k at) (poured_raw.comes o), length-take-le k (drop at.0 s) inside)
+      omega (arith, next_room (take k (drop at.0 s)) (on_by k at) (poured_raw.comes o), length-take-le k (drop at.0 s) inside, left)
 
-  pub poured_copy : (r : ℕ) (w : List ℕ) → (r, w) ≡ copied s at n v → Poured s o p b w (on_by r at) (n + r)
+  -- the buffer with this at the front of its rest
+  abbrev poured : List ℕ → List ℕ
+  poured w = take n v ++ (w ++ drop (length v - n) (drop n v))
+
+  pub poured_copy : (r : ℕ) (w : List ℕ) → (r, w) ≡ copied s at rest_of → Poured s o p b (poured w) (on_by r at) (n + r)
   unfolding copied
   poured_copy r w e =
-      rw (ap (λ (x : ℕ × List ℕ). x.0) e, ap (λ (x : ℕ × List ℕ). x.1) e)
-      (next (drop at.0 s) (unmarked s at) (on_by (unmarked s at) at) inside (poured_raw.comes o))
+      let k = unmarked s at in
+      let l : length (take k (drop at.0 s)) ≡ k = length-take-le k (drop at.0 s) inside in
+      let t : take k (take k (drop at.0 s)) ≡ take k (drop at.0 s) = rw l at (take-length (take k (drop at.0 s))) in
+      rw (ap (λ (x : ℕ × List ℕ). x.0) e, ap (λ (x : ℕ × List ℕ). x.1) e, over_rest n v (take k (drop at.0 s)), l)
+      (next (take k (drop at.0 s)) k (on_by k at) (omega arith) (rw t (poured_raw.comes o)))
 
   -- what an element adds
-  pub poured_fits : (m : More) (q : Place) → Leads s o Plain at (Ok (Adds m q)) → n + length (added m) ≤ length v
-  poured_fits m q l = next_room (added m) q l.1
+  pub poured_fits : (m : More) (q : Place) → Leads s o Plain at (Ok (Adds m q)) → length (added m) ≤ length rest_of
+  poured_fits m q l = omega (arith, next_room (added m) q l.1, left)
 
-  pub poured_put : (m : More) (q : Place) → Leads s o Plain at (Ok (Adds m q)) → (r : ℕ) (w : List ℕ) → (r, w) ≡ stored m n v
-      → Poured s o p b w q (n + r)
+  pub poured_put : (m : More) (q : Place) → Leads s o Plain at (Ok (Adds m q)) → (r : ℕ) (w : List ℕ) → (r, w) ≡ stored m rest_of
+      → Poured s o p b (poured w) q (n + r)
   unfolding stored
   poured_put m q l r w e =
-      rw (ap (λ (x : ℕ × List ℕ). x.0) e, ap (λ (x : ℕ × List ℕ). x.1) e)
+      rw (ap (λ (x : ℕ × List ℕ). x.0) e, ap (λ (x : ℕ × List ℕ). x.1) e, over_rest n v (added m))
       (next (added m) (length (added m)) q (omega arith) (rw take-length l.1))
 
   -- the closing quote; and nothing else can end it

@@ -6,54 +6,63 @@ use mathlib.Core.List.{List, [], ◌∷◌, ◌++◌, append-nil, append_assoc}
 use native.Mathlib.Omega.{arith}
 use Rattle.std.specs.Prelude.{Option, Some, unwrap_or}
 use lib.ListN.{length, set, take, drop, length-drop, drop_of_length-le}
-use lib.Seq.{paste-zero, take-length, take_all, drop-drop, sets-eq}
+use lib.Seq.{paste, take-length, length-take-le, take_all, drop-drop, sets-eq}
 use borrow.Author.Tests.{le-leb}
+use Rattle.terms.specs.Terms.{over}
 use Rattle.terms.proofs.FirstLaws.{first_le}
 use Rattle.answers.specs.declared.Place.{Place}
 use Rattle.chars.specs.Utf8.{is_scalar, encode, encoded}
-use Rattle.strings.specs.declared.More.{More}
 use Rattle.strings.specs.declared.More.TheVariants.{One, Whole}
 use Rattle.strings.specs.Strings.{added}
 use Rattle.strings.specs.inner.Writing.{marked, unmarked, copied, stored}
 
--- copying the r bytes that are unmarked, to the buffer b from n on
+-- copying the r bytes that are unmarked, to the front of the buffer b
 module _ (s : List ℕ) (p : Place) where
   pub unmarked_in : 0 < unmarked s p → p.0 + unmarked s p ≤ length s
   unfolding unmarked
   unmarked_in z = omega (arith, first_le (marked s) (length s - p.0) p.0)
 
-  module _ (n : ℕ) (b : List ℕ) (r : ℕ) (e : r ≡ unmarked s p) where
-    pub copied_none : r ≤ 0 → (r, b) ≡ copied s p n b
+  module _ (b : List ℕ) (r : ℕ) (e : r ≡ unmarked s p) where
+    pub copied_none : r ≤ 0 → (r, b) ≡ copied s p b
     unfolding copied
     copied_none z =
         let k : 0 ≡ unmarked s p = omega arith in
         let x : r ≡ 0 = omega arith in
-        rw (x, ← k) (ap (λ (x : List ℕ). (0, x)) (paste-zero b n (drop p.0 s)))
+        rw (x, ← k)
 
-    pub copied_some : (r, take n b ++ (take (p.0 + r - p.0) (drop p.0 s) ++ drop (n + r - n) (drop n b))) ≡ copied s p n b
-    unfolding copied
-    copied_some =
+    pub copied_fits : 0 < r → unmarked s p ≤ length b → length (take r b) ≡ length (take (p.0 + r - p.0) (drop p.0 s))
+    copied_fits z room =
+        let i = unmarked_in (rw e at z) in
         let x : p.0 + r - p.0 ≡ r = omega arith in
-        let y : n + r - n ≡ r = omega arith in
-        rw (x, y, e, drop-drop, append_assoc)
+        let l : r ≤ length (drop p.0 s) = rw length-drop (omega arith) in
+        rw (x, length-take-le r b (omega arith), length-take-le r (drop p.0 s) l)
+
+    pub copied_some : 0 < r → (r, take (p.0 + r - p.0) (drop p.0 s) ++ drop r b) ≡ copied s p b
+    unfolding copied
+    copied_some z =
+        let x : p.0 + r - p.0 ≡ r = omega arith in
+        let i = unmarked_in (rw e at z) in
+        let l : length (take (unmarked s p) (drop p.0 s)) ≡ unmarked s p = length-take-le _ _ (rw length-drop (omega arith)) in
+        rw (x, e, l)
 
 -- storing what a turn adds
-stored_is : (m : More) (n : ℕ) (v : List ℕ) → stored m n v ≡ (length (added m), take n v ++ (added m ++ drop (n + length (added m)) v))
-unfolding stored
-stored_is m n v = rw (take-length, append_assoc)
-
-module _ (n : ℕ) (v : List ℕ) where
-  pub stored_one : (b : ℕ) → n < length v → (1, set v n b) ≡ stored (One b) n v
+module _ (v : List ℕ) where
+  pub stored_one : (b : ℕ) → 0 < length v → (1, set v 0 b) ≡ stored (One b) v
   unfolding stored added
-  stored_one b l = ap (λ (x : List ℕ). (1, x)) (sets-eq (b ∷ []) v n (omega arith))
+  stored_one b l = ap (λ (x : List ℕ). (1, x)) (sets-eq (b ∷ []) v 0 (omega arith))
 
-  pub stored_whole : (c : ℕ) → is_scalar c ≡ true → n + length (encode c) ≤ length v → (r : Option ℕ) (ys : List ℕ)
-      → (r, ys) ≡ encoded c (take (length v - n) (drop n v)) → (unwrap_or r 0, take n v ++ (ys ++ drop (length v - n) (drop n v))) ≡ stored (Whole c) n v
-  unfolding encoded added
+  pub stored_whole : (c : ℕ) → is_scalar c ≡ true → length (encode c) ≤ length v → (r : Option ℕ) (ys : List ℕ)
+      → (r, ys) ≡ encoded c v → (unwrap_or r 0, ys) ≡ stored (Whole c) v
+  unfolding encoded stored added
   stored_whole c y l r ys e =
-      let long : length (drop n v) ≡ length v - n = length-drop n v in
-      let all : take (length v - n) (drop n v) ≡ drop n v = take_all (length v - n) (drop n v) (omega arith) in
-      let none : drop (length v - n) (drop n v) ≡ [] = drop_of_length-le (drop n v) (let k : length (drop n v) ≤ length v - n = omega arith in k) in
-      let room : length (encode c) ≤ length (drop n v) = omega arith in
-      let f : ◌≡◌ {A = Option ℕ × List ℕ} (r, ys) (Some (length (encode c)), encode c ++ drop (length (encode c)) (drop n v)) = e ∙ rw (all, y, le-leb _ _ room) in
-      rw (stored_is (Whole c) n v, none, append-nil, ap (λ (x : Option ℕ × List ℕ). x.0) f, ap (λ (x : Option ℕ × List ℕ). x.1) f, drop-drop)
+      let f : ◌≡◌ {A = Option ℕ × List ℕ} (r, ys) (Some (length (encode c)), encode c ++ drop (length (encode c)) v) = e ∙ rw (y, le-leb _ _ l) in
+      ap (λ (x : Option ℕ × List ℕ). (unwrap_or x.0 0, x.1)) f
+
+-- what is put at the front of the rest of a buffer, from n on
+pub over_rest : (n : ℕ) (v xs : List ℕ)
+    → take n v ++ (over xs (take (length v - n) (drop n v)) ++ drop (length v - n) (drop n v)) ≡ paste v n xs (length xs)
+over_rest n v xs =
+    let long : length (drop n v) ≡ length v - n = length-drop n v in
+    let all : take (length v - n) (drop n v) ≡ drop n v = take_all (length v - n) (drop n v) (omega arith) in
+    let none : drop (length v - n) (drop n v) ≡ [] = drop_of_length-le (drop n v) (let k : length (drop n v) ≤ length v - n = omega arith in k) in
+    rw (all, none, append-nil, drop-drop, take-length, append_assoc)

@@ -33,30 +33,33 @@ fn unmarked(text: &[u8], at: Place) -> usize
     text.len().saturating_sub(start)
 }
 
-// The bytes of the text from a place on, as far as no quote and no backslash stands, to the buffer from n on; how many.
-fn copy_raw(text: &[u8], at: Place, value: &mut [u8], n: usize) -> usize
-    requires { n + unmarked text.now at ≤ length value.old }
-    ensures { (result, value.new) ≡ copied text.now at n value.old }
+// The bytes of the text from a place on, as far as no quote and no backslash stands, to the front of a buffer; how many.
+fn copy_raw(text: &[u8], at: Place, buffer: &mut [u8]) -> usize
+    requires { unmarked text.now at ≤ length buffer.old }
+    ensures { (result, buffer.new) ≡ copied text.now at buffer.old }
 {
     let run = unmarked(text, at);
     if 0 < run {
         let start = at.0 as usize;
-        value[n..n + run].copy_from_slice(&text[start..start + run]);
+        let raw = &text[start..start + run];
+        buffer[..run].copy_from_slice(raw);
     }
     run
 }
 
-// What a turn adds, to the buffer from n on; how many bytes that is.
-fn put(value: &mut [u8], n: usize, more: More) -> usize
-    requires { Proper more × (n + length (added more) ≤ length value.old) }
-    ensures { (result, value.new) ≡ stored more n value.old }
-{
-    match more {
-        More::One(b) => {
-            value[n] = b as u8;
-            1
+impl More {
+    // Its bytes to the front of a buffer, which has room; how many.
+    fn put(self, buffer: &mut [u8]) -> usize
+        requires { Proper self × (length (added self) ≤ length buffer.old) }
+        ensures { (result, buffer.new) ≡ stored self buffer.old }
+    {
+        match self {
+            More::One(b) => {
+                buffer[0] = b as u8;
+                1
+            }
+            More::Whole(c) => encoding::encode(c, buffer).unwrap_or(0),
         }
-        More::Whole(c) => encoding::encode(c, &mut value[n..]).unwrap_or(0),
     }
 }
 
@@ -68,12 +71,12 @@ fn pour(text: &[u8], offset: u32, start: Place, value: &mut [u8])
     let mut at = start;
     let mut n: usize = 0;
     loop {
-        let run = copy_raw(text, at, value, n);
+        let run = copy_raw(text, at, &mut value[n..]);
         at = Place(at.0 + run as u32);
         n += run;
         match element_at(text, offset, at) {
             Ok(Element::Adds(more, next)) => {
-                n += put(value, n, more);
+                n += more.put(&mut value[n..]);
                 at = next;
             }
             Ok(Element::Close(_)) => return,

@@ -1,11 +1,8 @@
 //! The string rule from behind the opening quote on.
 ghost use Rattle.std.specs.Prelude.{◌≡◌, length};
-ghost use Rattle.strings.specs.Strings.{added, closed_by, string_literal};
-ghost use Rattle.strings.specs.inner.Checking.{verdict};
+ghost use Rattle.strings.specs.Strings.{added, string_literal};
 ghost use Rattle.strings.specs.inner.Walking.{ascii_at, expected_at, Sound, Leads, Raw};
 
-use crate::checking::{passed, took};
-use crate::turns::turn_of;
 use crate::{Element, Inside, Literal, More, Seen, Turn};
 use answers::{Place, Position, Refusal};
 use chars::AsciiSet;
@@ -38,7 +35,7 @@ fn turns_at(text: &[u8], offset: u32, from: Inside, start: Place) -> Result<Elem
     let mut at = start;
     loop {
         let (c, next) = expect_any_char(text, offset, at)?;
-        match turn_of(inside, at, c)? {
+        match inside.turn(at, c)? {
             Turn::On(_, Some(more)) => return Ok(Element::Adds(more, next)),
             Turn::On(then, None) => {
                 inside = then;
@@ -83,26 +80,16 @@ fn raw_run(text: &[u8], at: Place) -> u32
     }
 }
 
-// How many bytes a turn adds.
-#[tactic(auto, unfolding(crate::specs::Strings::added), using(chars::proofs::EncodeLaws::encode_most))]
-fn size(more: More) -> u32
-    ensures { result ≡ length (added more) }
-{
-    match more {
-        More::One(_) => 1,
-        More::Whole(c) => encoding::width(c) as u32,
-    }
-}
-
-// The answer for n bytes of which that is known, closed before the place `end`.
-#[tactic(auto, unfolding(crate::specs::Strings::closed_by, crate::specs::inner::Checking::verdict))]
-fn closed(quote: Position, count: u32, seen: Seen, end: Place) -> Result<Literal, Refusal>
-    ensures { result ≡ closed_by quote count (verdict seen) end }
-{
-    match seen {
-        Seen::Well => Ok(Literal { end, count }),
-        Seen::Part(rest) => Err(Refusal::InvalidUtf8(quote, rest.start)),
-        Seen::Ill(start) => Err(Refusal::InvalidUtf8(quote, start)),
+impl More {
+    // How many bytes it adds.
+    #[tactic(auto, unfolding(crate::specs::Strings::added), using(chars::proofs::EncodeLaws::encode_most))]
+    fn size(self) -> u32
+        ensures { result ≡ length (added self) }
+    {
+        match self {
+            More::One(_) => 1,
+            More::Whole(c) => encoding::width(c) as u32,
+        }
     }
 }
 
@@ -124,15 +111,15 @@ pub fn expect_string_literal(
         if 0 < run {
             here = Place(here.0 + run);
             count += run;
-            seen = passed(seen);
+            seen = seen.passed();
         }
         match element_at(text, offset, here)? {
             Element::Adds(more, next) => {
-                seen = took(count, seen, more);
-                count += size(more);
+                seen = seen.took(count, more);
+                count += more.size();
                 here = next;
             }
-            Element::Close(next) => return closed(start, count, seen, next),
+            Element::Close(next) => return seen.closed(start, count, next),
         }
     }
 }

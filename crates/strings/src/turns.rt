@@ -20,6 +20,8 @@ fn simple_of(c: u32) -> Option<u32>
     }
 }
 
+// The place and the character stay two parameters of each turn: a struct of both is no plainer, as each refusal takes it apart again.
+
 // Between characters.
 #[tactic(auto, unfolding(crate::specs::Strings::plain_turn))]
 fn plain_turn(at: Place, c: u32) -> Result<Turn, Refusal>
@@ -84,70 +86,69 @@ fn first_turn(u: Place, at: Place, c: u32) -> Result<Turn, Refusal>
     Ok(Turn::On(Inside::Number(number), None))
 }
 
-// A digit more of the number. It overflows exactly where its upper four bits are taken already.
-#[tactic(auto, unfolding(crate::specs::Strings::digit_turn))]
-fn digit_turn(number: Digits, at: Place, digit: u32) -> Result<Turn, Refusal>
-    requires { digit < 16 }
-    ensures { result ≡ digit_turn number at digit }
-{
-    let upper = number
-        .value
-        .checked_mul(16)
-        .ok_or(Refusal::NumberTooBig(at))?;
-    let more = Digits {
-        value: upper + digit,
-        lone: false,
-        ..number
-    };
-    Ok(Turn::On(Inside::Number(more), None))
-}
-
-// Behind the number.
-#[tactic(auto, unfolding(crate::specs::Strings::end_turn))]
-fn end_turn(number: Digits, at: Place, c: u32) -> Result<Turn, Refusal>
-    ensures { result ≡ end_turn number at c }
-{
-    if number.lone {
-        return Err(Refusal::LoneUnderscore(number.first));
-    }
-    if !encoding::is_scalar(number.value) {
-        return Err(Refusal::InvalidUnicodeValue(number.u, number.value));
-    }
-    if c != 0x7D {
-        return Err(Refusal::WantedChar(at, 0x7D));
-    }
-    Ok(Turn::On(Inside::Plain, Some(More::Whole(number.value))))
-}
-
-// In the number.
-#[tactic(auto, unfolding(crate::specs::Strings::number_turn))]
-fn number_turn(number: Digits, at: Place, c: u32) -> Result<Turn, Refusal>
-    ensures { result ≡ number_turn number at c }
-{
-    if c == 0x5F {
+impl Digits {
+    // A digit more of the self. It overflows exactly where its upper four bits are taken already.
+    #[tactic(auto, unfolding(crate::specs::Strings::digit_turn))]
+    fn more(self, at: Place, digit: u32) -> Result<Turn, Refusal>
+        requires { digit < 16 }
+        ensures { result ≡ digit_turn self at digit }
+    {
+        let upper = self.value.checked_mul(16).ok_or(Refusal::NumberTooBig(at))?;
         let more = Digits {
-            lone: true,
-            ..number
+            value: upper + digit,
+            lone: false,
+            ..self
         };
-        return Ok(Turn::On(Inside::Number(more), None));
+        Ok(Turn::On(Inside::Number(more), None))
     }
-    match chars::to_hex(c) {
-        Some(digit) => digit_turn(number, at, digit),
-        None => end_turn(number, at, c),
+
+    // Behind the number.
+    #[tactic(auto, unfolding(crate::specs::Strings::end_turn))]
+    fn end(self, at: Place, c: u32) -> Result<Turn, Refusal>
+        ensures { result ≡ end_turn self at c }
+    {
+        if self.lone {
+            return Err(Refusal::LoneUnderscore(self.first));
+        }
+        if !encoding::is_scalar(self.value) {
+            return Err(Refusal::InvalidUnicodeValue(self.u, self.value));
+        }
+        if c != 0x7D {
+            return Err(Refusal::WantedChar(at, 0x7D));
+        }
+        Ok(Turn::On(Inside::Plain, Some(More::Whole(self.value))))
+    }
+
+    // In the number.
+    #[tactic(auto, unfolding(crate::specs::Strings::number_turn))]
+    fn turn(self, at: Place, c: u32) -> Result<Turn, Refusal>
+        ensures { result ≡ number_turn self at c }
+    {
+        if c == 0x5F {
+            let more = Digits { lone: true, ..self };
+            return Ok(Turn::On(Inside::Number(more), None));
+        }
+        match chars::to_hex(c) {
+            Some(digit) => self.more(at, digit),
+            None => self.end(at, c),
+        }
     }
 }
 
-#[tactic(auto, unfolding(crate::specs::Strings::turn_of))]
-pub(crate) fn turn_of(inside: Inside, at: Place, c: u32) -> Result<Turn, Refusal>
-    requires { Sound inside }
-    ensures { result ≡ turn_of inside at c }
-{
-    match inside {
-        Inside::Plain => plain_turn(at, c),
-        Inside::Escape => escape_turn(at, c),
-        Inside::Half(half) => half_turn(half, at, c),
-        Inside::Brace(u) => brace_turn(u, at, c),
-        Inside::First(u) => first_turn(u, at, c),
-        Inside::Number(number) => number_turn(number, at, c),
+impl Inside {
+    // What the character c at a place does.
+    #[tactic(auto, unfolding(crate::specs::Strings::turn_of))]
+    pub(crate) fn turn(self, at: Place, c: u32) -> Result<Turn, Refusal>
+        requires { Sound self }
+        ensures { result ≡ turn_of self at c }
+    {
+        match self {
+            Inside::Plain => plain_turn(at, c),
+            Inside::Escape => escape_turn(at, c),
+            Inside::Half(half) => half_turn(half, at, c),
+            Inside::Brace(u) => brace_turn(u, at, c),
+            Inside::First(u) => first_turn(u, at, c),
+            Inside::Number(number) => number.turn(at, c),
+        }
     }
 }

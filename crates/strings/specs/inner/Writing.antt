@@ -1,7 +1,6 @@
 -- Decoding by two walks, of which the first measures and the second writes. `decoded_value` (proofs/DecodingLaws.antt) ties them to `decoded`.
-use Rattle.std.specs.Prelude.{ℕ, ◌-◌, ◌≤◌, Bool, ◌||◌, List, ◌++◌, length, get_or, drop, eqb, Option, None, Some}
-use Rattle.std.proofs.Math.Seq.{paste}
-use Rattle.terms.specs.Terms.{first}
+use Rattle.std.specs.Prelude.{ℕ, ◌-◌, ◌≤◌, Bool, ◌||◌, List, ◌++◌, length, get_or, take, drop, eqb, Option, None, Some}
+use Rattle.terms.specs.Terms.{first, over}
 use Rattle.answers.specs.declared.Place.{Place}
 use Rattle.strings.specs.declared.More.{More}
 use Rattle.strings.specs.Strings.{added, Gathered, bytes, refused}
@@ -34,10 +33,10 @@ marked s j = is_mark (get_or s j 0)
 unfoldable pub unmarked : List ℕ → Place → ℕ
 unmarked s p = first (marked s) p.0 (length s - p.0) - p.0
 
--- These bytes in a buffer from n on, and their count.
-unfoldable pub copied : List ℕ → Place → ℕ → List ℕ → ℕ × List ℕ
-copied s p n b = (unmarked s p, paste b n (drop p.0 s) (unmarked s p))
+-- These bytes at the front of a buffer, and their count.
+unfoldable pub copied : List ℕ → Place → List ℕ → ℕ × List ℕ
+copied s p b = (unmarked s p, over (take (unmarked s p) (drop p.0 s)) b)
 
--- What a turn adds, in a buffer from n on, and its count.
-unfoldable pub stored : More → ℕ → List ℕ → ℕ × List ℕ
-stored m n b = (length (added m), paste b n (added m) (length (added m)))
+-- What a turn adds, at the front of a buffer, and its count.
+unfoldable pub stored : More → List ℕ → ℕ × List ℕ
+stored m b = (length (added m), over (added m) b)

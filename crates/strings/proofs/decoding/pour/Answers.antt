@@ -1,5 +1,5 @@
 -- Raw characters and what an element adds keep that the buffer holds the value's first bytes (`Poured`), and the element that ends them ends the value.
-use Rattle.std.proofs.Common.{◌+◌, arith}
+use Rattle.std.proofs.Common.{◌++◌, ◌-◌, length, take, drop, ◌+◌, arith}
 use Rattle.chars.specs.Utf8.{on_by}
 use Rattle.strings.proofs.PouringLaws.{Poured, poured_capped, poured_room, poured_copy, poured_fits, poured_put, poured_close, poured_fail}
 use Rattle.strings.proofs.decoding.pour.Goals as goal
@@ -7,8 +7,10 @@ use Rattle.strings.proofs.decoding.pour.Goals.{After-copy_raw-run}
 
 -- where the raw characters are copied
 raw : (c : After-copy_raw-run)
-    → Poured c.args.text.now c.args.offset c.args.start c.args.value.now c.copy_raw-run.new.value
-    (on_by c.copy_raw-run.result c.loop-more.at) (c.loop-more.n + c.copy_raw-run.result)
+    → let v = c.loop-more.value in
+    let n = c.loop-more.n in
+    Poured c.args.text.now c.args.offset c.args.start c.args.value.now (take n v ++ (c.copy_raw-run.new.buffer ++ drop (length v - n) (drop n v)))
+    (on_by c.copy_raw-run.result c.loop-more.at) (n + c.copy_raw-run.result)
 raw c = poured_copy _ _ _ _ c.requires _ _ _ c.loop-more.invariant _ _ c.copy_raw-run.ensures
 
 pub copy_raw-run-requires : goal.copy_raw-run-requires
@@ -32,6 +34,12 @@ pub returns-in-Err : goal.returns-in-Err
 returns-in-Err c =
     let l = rw c.in-Err.is at c.element_at.ensures in
     absurd (poured_fail _ _ _ _ c.requires _ _ _ (raw (goal.at.returns-in-Err c).After-copy_raw-run) _ l)
+
+pub slice_bounds-put-start : goal.slice_bounds-put-start
+slice_bounds-put-start c = let r = raw (goal.at.slice_bounds-put-start c).After-copy_raw-run in omega (arith, r.fits)
+
+pub slice_bounds-put-count : goal.slice_bounds-put-count
+slice_bounds-put-count c = let r = raw (goal.at.slice_bounds-put-count c).After-copy_raw-run in omega (arith, r.fits)
 
 pub put-n-requires : goal.put-n-requires
 put-n-requires c =
