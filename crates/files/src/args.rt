@@ -1,5 +1,5 @@
 //! The program's arguments. They are bytes, and need not be text.
-ghost use Rattle.std.specs.Prelude.{◌≡◌, All, IfOk, IfSome};
+ghost use Rattle.std.specs.Prelude.{◌≡◌, ◌<◌, ◌↔◌, All, IfOk, IfSome, IsTrue, length, slice_index};
 ghost use Rattle.files.specs.Arguments.{IsShort, bytes_of};
 
 use std::alloc::{AllocError, Global};
@@ -23,6 +23,14 @@ impl Argument {
             Argument::Bytes(bytes) => bytes.as_slice(),
             Argument::TooLong => &[],
         }
+    }
+
+    /// Whether it looks like an option: a dash, and more behind it.
+    pub fn is_option(&self) -> bool
+        ensures { IsTrue result ↔ ((1 < length (bytes_of self.now)) × (slice_index (bytes_of self.now) 0 ≡ 45)) }
+    {
+        let bytes = self.as_bytes();
+        bytes.len() > 1 && bytes[0] == b'-'
     }
 }
 
@@ -88,6 +96,7 @@ mod tests {
         let all = arguments(&Given, rt.alloc())?;
         assert_eq!(rt; all.len(), 2);
         assert_eq!(rt; all[0].as_bytes(), b"-x".as_slice());
+        assert!(rt; all[0].is_option());
         assert_eq!(rt; all[1].as_bytes().len(), 0);
         Ok(())
     }

@@ -28,7 +28,7 @@ pub enum Task<'a> {
 impl<'a> From<&'a [Argument]> for Task<'a> {
     fn from(arguments: &'a [Argument]) -> Task<'a> {
         match arguments {
-            [file] if !is_option(file.as_bytes()) => Task::Sort(file),
+            [file] if !file.is_option() => Task::Sort(file),
             [option, file] if option.as_bytes() == b"--propose".as_slice() => Task::Propose(file),
             [option, order, file] if option.as_bytes() == b"--check".as_slice() => Task::Check {
                 order,
@@ -37,8 +37,4 @@ impl<'a> From<&'a [Argument]> for Task<'a> {
             _ => Task::Help,
         }
     }
-}
-
-fn is_option(word: &[u8]) -> bool {
-    word.len() > 1 && word[0] == b'-'
 }

@@ -64,7 +64,7 @@ impl<'a> From<&'a [Argument]> for Asked<'a> {
                 b"--filtered" => form.is_filtered = true,
                 b"--numbers" => form.is_numbers = true,
                 b"--help" => is_help = true,
-                word if is_option(word) => wrong = Some(Wrong::NoOption(word)),
+                word if argument.is_option() => wrong = Some(Wrong::NoOption(word)),
                 word if file.is_some() => wrong = Some(Wrong::SecondFile(word)),
                 _ => file = Some(argument),
             }
@@ -75,8 +75,4 @@ impl<'a> From<&'a [Argument]> for Asked<'a> {
             _ => Asked::Help,
         }
     }
-}
-
-fn is_option(word: &[u8]) -> bool {
-    word.len() > 1 && word[0] == b'-'
 }
