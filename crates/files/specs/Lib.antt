@@ -1,5 +1,4 @@
--- The definitions that the contracts cite.
-pub mod Arguments
-pub mod Faults
+-- The definition that the contract of `line_behind` cites.
 pub mod Lines
-pub mod Refusals
+-- What the programs' own contracts need.
+pub mod inner

@@ -1,6 +1,6 @@
 //! The program's arguments. They are bytes, and need not be text.
 ghost use Rattle.std.specs.Prelude.{◌≡◌, ◌<◌, ◌↔◌, All, IfOk, IfSome, IsTrue, length, slice_index};
-ghost use Rattle.files.specs.Arguments.{IsShort, bytes_of};
+ghost use Rattle.files.specs.inner.Arguments.{IsShort, bytes_of};
 
 use std::alloc::{AllocError, Global};
 use std::env::FillError;

@@ -1,7 +1,7 @@
 //! What is wrong with a file, or with an argument that is to name one.
 ghost use Rattle.std.specs.Prelude.{◌++◌, ◌∷◌, [], Some, codes, OnOk};
 ghost use Rattle.std.specs.Io.KnownBytes.{Appends};
-ghost use Rattle.files.specs.Faults.{words_of};
+ghost use Rattle.files.specs.inner.Faults.{words_of};
 
 use std::error::Error;
 use std::io::{ErrorKind, Write};

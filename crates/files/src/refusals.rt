@@ -1,6 +1,6 @@
 //! Refusals for people, by the order of docs/REFUSALS.md.
 ghost use Rattle.std.specs.Prelude.{Some};
-ghost use Rattle.files.specs.Refusals.{numbers_of};
+ghost use Rattle.files.specs.inner.Refusals.{numbers_of};
 
 use answers::{Numbers, Refusal};
 use std::fmt;

@@ -1,0 +1,4 @@
+-- What the programs' own contracts need.
+pub mod Arguments
+pub mod Faults
+pub mod Refusals
