@@ -107,7 +107,8 @@ pub fn check_length(length: usize) -> Verdict
     Err(Refusal::TooLong(length as u32))
 }
 
-// 1, then 2: a text of this many bytes, at this offset in the map.
+// 1, then 2: a text of this many bytes, at this offset in the map. Here and above, a text and its offset stay two parameters: the C functions and
+// each public signature that the README and docs name have them so.
 #[tactic(auto, unfolding(crate::specs::Caps::text_verdict, crate::specs::Caps::map_verdict, crate::specs::Caps::first_of), using(crate::proofs::CapsLaws::length_in))]
 pub fn check_text(offset: u32, length: usize) -> Verdict
     ensures { result ≡ text_verdict offset length }

@@ -18,7 +18,7 @@ pub struct Answer {
     pub cursor: u32,
 }
 
-// The kind that stands for no token.
+// The kind that stands for no token, in C and in the recorded answers.
 const NO_KIND: u32 = 67;
 
 // The answer that a line's fields hold.

@@ -58,6 +58,7 @@ fn ends_four(low: u32, high: u32, c: u32, d: u32, e: u32) -> bool
     ends_three(low, high, c, d) && is_tail(e)
 }
 
+// Two, three and four bytes stay three functions: one for them all would be a loop over the tails, with an invariant for their sum: no plainer.
 #[tactic(auto, unfolding(crate::specs::Utf8::char_by), using(crate::proofs::Utf8Laws::two_in))]
 fn two_at(text: &[u8], at: Place, b: u32, low: u32, high: u32) -> Read
     requires { (at.0 < cap) × (lead_of b ≡ Lead.Two low high) }

@@ -56,7 +56,7 @@ impl State {
         self.placed += 1;
     }
 
-    // Items are placed until none can be.
+    // Items are placed until none can be. No `for`: how many turns that takes is what is found.
     pub(crate) fn run(edges: Edges) -> Self
         ensures { Ran (edges_in edges.entry) edges.entry.items result }
     {

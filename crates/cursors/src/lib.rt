@@ -35,7 +35,7 @@ pub fn open(text: &[u8], offset: u32) -> Result<Cursor, Refusal>
     Ok(Cursor { at })
 }
 
-// The four steps from a plain number on, for callers that lend no cursor.
+// The four steps from a plain number on, for callers that lend no cursor. They stay four: docs/READING.md names them.
 pub fn next_raw_from(text: &[u8], offset: u32, at: u32) -> Moved
     ensures { result ≡ next_raw_at text.now offset (place at) }
 {

@@ -15,7 +15,8 @@ use names::Index;
 use shape::Sheet;
 
 // The checks up to 29, and before 29 whether the two tables have room. Each edge's item and target are written to them, up to the first edge that
-// names no item.
+// names no item. Here and above, a sheet and its names stay two parameters, as C lends them; and the tables two, since the clerk scans targets as
+// bytes, sixteen at a time.
 pub fn resolve(sheet: &[u32], names: &[u8], owners: &mut [u8], targets: &mut [u8]) -> Verdict
     ensures { Resolved sheet.now names.now owners.old targets.old result owners.new targets.new }
 {

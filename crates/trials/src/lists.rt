@@ -14,7 +14,7 @@ impl Sheet<'_> {
                 .any(|edge| edge.item == word && !before.contains(&edge.target))
     }
 
-    // The first index that is at fault; the length where there is none.
+    // The first index that is at fault; the length where there is none, which is what 33 tells of a list that is too short.
     fn fault(&self, list: &[u32]) -> usize {
         for (k, word) in list.iter().enumerate() {
             if self.is_fault(&list[..k], *word) {
