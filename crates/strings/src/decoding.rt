@@ -64,6 +64,7 @@ impl More {
 }
 
 // The bytes of the string that starts behind its quote at `start`, to the front of a buffer that has room.
+// A loop, as each element tells the next place: an iterator of places is no plainer.
 fn pour(text: &[u8], offset: u32, start: Place, value: &mut [u8])
     requires { Roomy (gather offset Plain [] (folded_from text.now start)) (length value.old) }
     ensures { value.new ≡ filled (gather offset Plain [] (folded_from text.now start)) value.old }

@@ -27,6 +27,7 @@ fn expect_any_char(text: &[u8], offset: u32, at: Place) -> Result<(u32, Place), 
 }
 
 // As many turns as there are until something is gathered: one between characters, or those of an escape.
+// A loop, as each character tells the next place: an iterator of places is no plainer.
 fn turns_at(text: &[u8], offset: u32, from: Inside, start: Place) -> Result<Element, Refusal>
     requires { Sound from }
     ensures { Leads text.now offset from start result }
@@ -64,6 +65,7 @@ const BARE: AsciiSet = AsciiSet {
 };
 
 // How many bytes from a place on are characters that a string holds as they stand. Most are bare bytes, which are passed over at once.
+// A loop, as above: each character tells the next place.
 fn raw_run(text: &[u8], at: Place) -> u32
     ensures { Raw text.now at result }
 {
@@ -95,6 +97,7 @@ impl More {
 
 // The string rule from place `at` on, behind an opening quote at position `start`.
 // Nothing is read at or past the cap, and no more is gathered than is read, so no count is too large.
+// A loop, as above: each element tells the next place.
 pub fn expect_string_literal(
     text: &[u8],
     offset: u32,
