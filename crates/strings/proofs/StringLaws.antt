@@ -57,7 +57,8 @@ module _ (s : List ℕ) (o : ℕ) where
       go a.0 a.1 a.2 w (turn_of i p a.0) refl (λ j m q. ends k j (h ++ added_of m) a.1 g v (omega arith) q)
     where
       go : (c : ℕ) (n : Place) → folded_at s p ≡ Ok (Some (c, n)) → Onward s p n → (t : Result Turn Refusal) → turn_of i p c ≡ t
-          → ((j : Inside) (m : Option More) → Sound j → gather o j (h ++ added_of m) (folded_from s n) ≡ bytes g v → Ended s j (h ++ added_of m) n g v)
+          → ((j : Inside) (m : Option More) → Sound j → gather o j (h ++ added_of m) (folded_from s n) ≡ bytes g v
+          → Ended s j (h ++ added_of m) n g v)
           → Ended s i h p g v
       go c n here w (Ok (On j m)) t ih =
           let x = went s o i p c n here d j m t in

@@ -40,7 +40,8 @@ pub ascii_stands : (s : List ℕ) (p : Place) (b : ℕ) → ascii_at s p ≡ Som
 unfolding ascii_at
 ascii_stands s p b e = go (single_at s p) refl e
   where
-    go : (t : Bool) → single_at s p ≡ t → ◌≡◌ {A = Option ℕ} (if t then Some (byte_at s p) else None) (Some b) → folded_at s p ≡ Ok (Some (b, on_by 1 p))
+    go : (t : Bool) → single_at s p ≡ t → ◌≡◌ {A = Option ℕ} (if t then Some (byte_at s p) else None) (Some b)
+        → folded_at s p ≡ Ok (Some (b, on_by 1 p))
     go true h e = let k : byte_at s p ≡ b = cc in single_stands s p h ∙ rw k
     go false h e = cc
 
@@ -71,7 +72,8 @@ module _ (s : List ℕ) (o : ℕ) (p : Place) where
     unfolding gather
     turned = rw (folded_char s p c n here)
 
-    pub turn_on : (j : Inside) (m : Option More) → turn_of i p c ≡ Ok (On j m) → gather o i h (folded_from s p) ≡ gather o j (h ++ added_of m) (folded_from s n)
+    pub turn_on : (j : Inside) (m : Option More) → turn_of i p c ≡ Ok (On j m)
+        → gather o i h (folded_from s p) ≡ gather o j (h ++ added_of m) (folded_from s n)
     unfolding gather_on
     turn_on j m e = turned ∙ rw e
 
@@ -99,8 +101,8 @@ good_if : {w k : ℕ} {a b : Result Turn Refusal} (t : Bool) → (t ≡ true →
 good_if true f g = f refl
 good_if false f g = g refl
 
-good_or : {w k : ℕ} {b : Result Turn Refusal} {f : ℕ → Result Turn Refusal} (o : Option ℕ) → ((d : ℕ) → o ≡ Some d → Good w k (f d)) → Good w k b
-    → Good w k (option_map_or f o b)
+good_or : {w k : ℕ} {b : Result Turn Refusal} {f : ℕ → Result Turn Refusal} (o : Option ℕ)
+    → ((d : ℕ) → o ≡ Some d → Good w k (f d)) → Good w k b → Good w k (option_map_or f o b)
 good_or (Some d) f g = f d refl
 good_or None f g = g
 
