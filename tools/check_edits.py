@@ -37,9 +37,11 @@ class Piece:
                 deep = deep + line.count("{") - line.count("}") if self.code else 0
                 yield from ((word, False) for word in re.split(r"[^\w'-]+", line))
             else:
-                for module, function, constant in CALL.findall(line):
+                for module, function, constant in CALL.findall(re.sub(r"\bfn \w+", "", line)):
                     if not module or module in modules:
                         yield function or constant, True
+                    elif function:
+                        yield f"{module}::{function}", True
 
 
 def pieces(path):
@@ -47,7 +49,7 @@ def pieces(path):
     lines = path.read_text(encoding="utf-8").splitlines()
     found, owner = [], ""
     for number, line in enumerate(lines):
-        block = re.match(r"impl (\w+)", line)
+        block = re.match(r"impl(?:<[^>]*>)? (?:.* for )?(\w+)", line)
         owner = block[1] + "::" if block else "" if line.startswith("}") else owner
         start = starts.match(line)
         if start and len(start[1]) == (4 if owner else 0):
@@ -77,7 +79,7 @@ def counts(crate, edits):
         reached = [piece for piece in parts if piece.code and piece.whole == function]
         for piece in reached:
             names = set(piece.names(modules))
-            reached.extend(other for other in parts if (other.name, other.code) in names and other not in reached)
+            reached.extend(other for other in parts if {(other.name, other.code), (other.whole, other.code)} & names and other not in reached)
         yield function, sorted(set().union(*(wrong.get(piece, set()) for piece in reached)))
 
 
