@@ -14,11 +14,15 @@ fn half(set: AsciiSet, b: u32) -> u64
 }
 
 // The byte is of the set. A choice between two words is no branch, and so is not guessed wrong where letters and digits mix.
+// As one `&&` it misses the bar of speed: the bit is then shifted out and tested, where this form tests it in place.
 #[tactic(auto, unfolding(crate::specs::inner::Runs::in_set))]
 fn has(set: AsciiSet, b: u32) -> bool
     ensures { result ≡ in_set set b }
 {
-    b < 128 && (half(set, b) >> (b % 64)) % 2 == 1
+    if b < 128 {
+        return (half(set, b) >> (b % 64)) % 2 == 1;
+    }
+    false
 }
 
 // The place behind the last byte that is read.
