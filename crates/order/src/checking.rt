@@ -82,7 +82,7 @@ fn print_wrong(
 }
 
 /// Says whether an order is a load order of a list.
-pub fn check<'a>(
+pub(crate) fn check<'a>(
     alloc: Global,
     out: &mut impl Write,
     order: &Source<'a>,

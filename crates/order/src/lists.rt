@@ -48,7 +48,7 @@ fn item_of<'a, 't>(
 }
 
 /// The names of an order.
-pub fn order<'a, 't>(
+pub(crate) fn order<'a, 't>(
     alloc: Global,
     file: &'a [u8],
     text: &'t [u8],
@@ -68,7 +68,11 @@ pub fn order<'a, 't>(
 }
 
 impl<'t> List<'t> {
-    pub fn read<'a>(alloc: Global, file: &'a [u8], text: &'t [u8]) -> Result<List<'t>, Wrong<'a>> {
+    pub(crate) fn read<'a>(
+        alloc: Global,
+        file: &'a [u8],
+        text: &'t [u8],
+    ) -> Result<List<'t>, Wrong<'a>> {
         let mut items = Vec::new(alloc);
         for line in &lines(alloc, text)? {
             if let Some(item) = item_of(alloc, file, *line)? {
@@ -79,12 +83,12 @@ impl<'t> List<'t> {
     }
 
     /// The item of this name, by its index.
-    pub fn index_of(&self, name: &[u8]) -> Option<usize> {
+    pub(crate) fn index_of(&self, name: &[u8]) -> Option<usize> {
         self.items.iter().position(|item| item.name.bytes == name)
     }
 
     /// The dependency of this index, counted over all items, with the item that has it.
-    pub fn need(&self, index: usize) -> Option<(&Item<'t>, Word<'t>)> {
+    pub(crate) fn need(&self, index: usize) -> Option<(&Item<'t>, Word<'t>)> {
         let mut left = index;
         for item in &self.items {
             if let Some(need) = item.needs.get(left) {

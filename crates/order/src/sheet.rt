@@ -31,7 +31,7 @@ fn header(items: u32, needs: u32) -> [u32; 5] {
 
 impl Sheet {
     /// The sheet of these items.
-    pub fn new(alloc: Global, items: &[Item<'_>]) -> Result<Sheet, AllocError> {
+    pub(crate) fn new(alloc: Global, items: &[Item<'_>]) -> Result<Sheet, AllocError> {
         let mut names = Vec::new(alloc);
         let mut item_rows = Vec::new(alloc);
         let mut need_rows = Vec::new(alloc);

@@ -39,7 +39,7 @@ fn print_need(
 }
 
 /// What is wrong with the sheet of a list, at the item or the dependency that it is about.
-pub fn refuse<'a>(
+pub(crate) fn refuse<'a>(
     out: &mut impl Write,
     file: &'a [u8],
     list: &List,
@@ -66,7 +66,7 @@ pub fn refuse<'a>(
 }
 
 /// Prints the order that a planner gives, and answers how many dependencies it settles; or prints what is wrong in its place, and answers `None`.
-pub fn print<'a, P>(
+pub(crate) fn print<'a, P>(
     alloc: Global,
     out: &mut impl Write,
     source: &Source<'a>,

@@ -20,7 +20,7 @@ fn without_comment(line: &[u8]) -> &[u8] {
 }
 
 /// Lines are counted from 1.
-pub fn lines(alloc: Global, text: &[u8]) -> Result<Vec<Line<'_>>, AllocError> {
+pub(crate) fn lines(alloc: Global, text: &[u8]) -> Result<Vec<Line<'_>>, AllocError> {
     let mut lines = Vec::new(alloc);
     for (number, line) in (1..).zip(text.split(|&b| b == b'\n')) {
         let bytes = without_comment(line);
@@ -30,7 +30,7 @@ pub fn lines(alloc: Global, text: &[u8]) -> Result<Vec<Line<'_>>, AllocError> {
 }
 
 /// The names that stand in a part of a line, with blanks between.
-pub fn words(alloc: Global, part: &[u8], line: usize) -> Result<Vec<Word<'_>>, AllocError> {
+pub(crate) fn words(alloc: Global, part: &[u8], line: usize) -> Result<Vec<Word<'_>>, AllocError> {
     let mut words = Vec::new(alloc);
     for bytes in part.split(|&b| matches!(b, b' ' | b'\t' | b'\r')) {
         if !bytes.is_empty() {

@@ -26,7 +26,7 @@ impl fmt::Display for Fault {
 }
 
 /// The file and the line, before what is wrong there.
-pub fn place(out: &mut impl Write, file: &[u8], line: usize) -> io::Result<()> {
+pub(crate) fn place(out: &mut impl Write, file: &[u8], line: usize) -> io::Result<()> {
     out.write_all(file)?;
     write!(out, ":{line}: ")
 }
@@ -75,7 +75,7 @@ impl<T: Drop> From<AllocFailed<T>> for Wrong<'_> {
 
 impl Wrong<'_> {
     /// Says it in one line.
-    pub fn say(self, out: &mut impl Write) -> io::Result<()> {
+    pub(crate) fn say(self, out: &mut impl Write) -> io::Result<()> {
         match self {
             Wrong::File(complaint) => complaint.say(out),
             Wrong::Line { file, line, fault } => {

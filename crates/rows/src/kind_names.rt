@@ -1,7 +1,7 @@
 //! The kinds by their names in lex.rs.
 use kinds::Token;
 
-pub fn name_of(kind: Token) -> &'static str {
+pub(crate) fn name_of(kind: Token) -> &'static str {
     match kind {
         Token::Whitespace => "Whitespace",
         Token::Comment => "Comment",

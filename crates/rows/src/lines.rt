@@ -47,7 +47,7 @@ fn is_start(b: u8) -> bool {
 
 impl<'a> Line<'a> {
     /// The line of a place of a text.
-    pub fn around(text: &'a [u8], at: usize) -> Line<'a>
+    pub(crate) fn around(text: &'a [u8], at: usize) -> Line<'a>
         requires { at ≤ length text.now }
     {
         let start = start(text, at);
@@ -59,7 +59,7 @@ impl<'a> Line<'a> {
     }
 
     /// Characters are counted from 1. Those before a refusal are well formed, so each has one byte that starts it.
-    pub fn column(&self) -> usize {
+    pub(crate) fn column(&self) -> usize {
         1 + self.before.iter().filter(|&&b| is_start(b)).count()
     }
 }

@@ -31,7 +31,7 @@ pub enum Wrong<'a> {
 
 impl Wrong<'_> {
     /// Says it in one line.
-    pub fn say(self, out: &mut impl Write) -> io::Result<()> {
+    pub(crate) fn say(self, out: &mut impl Write) -> io::Result<()> {
         let (what, word) = match self {
             Wrong::NoOption(word) => ("no such option: ", word),
             Wrong::SecondFile(word) => ("one file is wanted, and this is a second: ", word),

@@ -30,7 +30,12 @@ impl fmt::Display for Message {
 }
 
 /// The text is at offset 0, so places and positions are the same numbers.
-pub fn print(out: &mut impl Write, name: &[u8], text: &[u8], refusal: Refusal) -> io::Result<()> {
+pub(crate) fn print(
+    out: &mut impl Write,
+    name: &[u8],
+    text: &[u8],
+    refusal: Refusal,
+) -> io::Result<()> {
     let at = (refusal.position() as usize).min(text.len());
     let line = Line::around(text, at);
     out.write_all(name)?;

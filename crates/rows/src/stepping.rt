@@ -76,7 +76,7 @@ fn print_rows(out: &mut impl Write, text: &[u8], form: Form) -> Result<(), Stop>
 }
 
 /// Prints the rows of a text, and behind them why it is refused.
-pub fn print(out: &mut impl Write, name: &[u8], text: &[u8], form: Form) -> io::Result<()> {
+pub(crate) fn print(out: &mut impl Write, name: &[u8], text: &[u8], form: Form) -> io::Result<()> {
     match print_rows(out, text, form) {
         Ok(()) => Ok(()),
         Err(Stop::Refused(refusal)) => refusing::print(out, name, text, refusal),
