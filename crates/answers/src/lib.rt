@@ -50,7 +50,7 @@ pub enum Refusal {
     InvalidUnicodeValue(Place, u32),
     IdPartEmpty(Position),
     InvalidCharInId(Position, u32),
-    // the kind wanted, and the kind found
+    // the kind wanted, and the kind found, by their numbers: C has 67 for the end of the text, which no token is
     Wanted(Position, u8, u8),
     BadSpan,
     BeyondText,
@@ -138,7 +138,7 @@ fn kinds(expected: u8, found: u8) -> u32
 }
 
 impl Refusal {
-    // The three numbers of a refusal.
+    // The three numbers of a refusal. Methods, and no `From`: the README and docs name these four, and a verdict converts by them.
     #[tactic(auto, unfolding(crate::specs::Refusals::told))]
     pub fn numbers(self) -> Numbers
         ensures { result ≡ told self }

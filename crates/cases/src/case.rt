@@ -90,7 +90,7 @@ impl Case {
         }
     }
 
-    // Makes the call.
+    // Makes the call. One `match`, and no closure for each: the calls take other fields of the line.
     fn answer(&mut self) -> Answer {
         let span = self.span();
         let text = &self.text;

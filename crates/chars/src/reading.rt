@@ -9,7 +9,7 @@ ghost use Rattle.chars.specs.inner.Single.{single_at};
 use crate::{Lead, Read};
 use answers::{Ill, Place};
 
-// The byte at a place, 0 past the end.
+// The byte at a place, 0 past the end, which goes on with no sequence. No Option: the definition of what is read goes by that 0.
 #[tactic(auto, unfolding(crate::specs::Utf8::byte_at))]
 pub fn byte_at(text: &[u8], at: Place) -> u32
     ensures { result ≡ byte_at text.now at }

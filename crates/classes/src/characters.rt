@@ -48,7 +48,7 @@ pub fn xid_continue(c: u32) -> bool
     }
 }
 
-// XID_Start, `_` or `-`.
+// XID_Start, `_` or `-`. Start and continuation stay two functions, as lex.rs has them.
 #[tactic(auto, unfolding(crate::specs::Classes::keylike_start))]
 pub fn is_keylike_start(c: u32) -> bool
     ensures { result ≡ keylike_start c }

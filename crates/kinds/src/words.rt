@@ -1,5 +1,5 @@
 //! Words: the keyword that a word's bytes are. A word is compared byte by byte, and only with the keywords of its own length.
-//! A function for each length: with two, for short and for long words, a keyword is found 9 percent slower.
+//! A function for each length: one `match` of all 44 is longer than a function may be here, and two, for short and for long words, are slower.
 #![tactic(auto, unfolding(crate::specs::Keywords::keyword, crate::specs::Keywords::key_in, crate::specs::Keywords::keywords, terms::specs::Terms::ascii), using(crate::proofs::ReadLaws::by_bytes))]
 
 ghost use Rattle.std.specs.Prelude.{◌≡◌, ◌≤◌, length};

@@ -9,7 +9,7 @@ ghost use Rattle.listing.specs.Listings.{row_cap, listed};
 
 use answers::Refusal;
 
-// Which tokens have a row: all of them, or none that is a blank or a comment.
+// Which tokens have a row: all of them, or none that is a blank or a comment. An enum, and no closure: C has a call for each, and contracts name it.
 #[derive(Clone, Copy, Debug, PartialEq, Eq)]
 pub enum Listing {
     Raw,

@@ -18,7 +18,7 @@ fn contains(names: &[Word], name: &[u8]) -> bool {
     names.iter().any(|word| word.bytes == name)
 }
 
-// The index of the item of each name; the number of items where it names none.
+// The index of the item of each name; the number of items where it names none, which the checker takes as a word that is no item.
 fn indices(alloc: Global, list: &List, names: &[Word]) -> Result<Vec<u32>, AllocError> {
     let none = list.items.len();
     names

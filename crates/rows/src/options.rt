@@ -15,7 +15,7 @@ pub const USAGE: &str = "\
     and the line, with a caret under the place. A column is a character; a tab is one.\n\
     ";
 
-/// Which tokens are printed, and how.
+/// Which tokens are printed, and how. Two flags, as the command line has them: each is given or not, whatever the other is.
 #[derive(Clone, Copy, Debug)]
 pub struct Form {
     pub is_filtered: bool,

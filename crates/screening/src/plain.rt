@@ -30,7 +30,7 @@ fn stops(b: u8, less: [u8; 3]) -> bool
     less.contains(&b) || odd(b)
 }
 
-// i where the byte stops, else 64.
+// i where the byte stops, else 64. No Option: the loop over it takes the least of 64 numbers at a time, and has no branch.
 fn stop_at(b: u8, less: [u8; 3], i: u8) -> u8
     ensures { result ≡ (if halts less b then i else 64) }
 {

@@ -1,4 +1,5 @@
-//! The words that the other rooms' contracts are written in (`specs/Terms.antt`), with those of them that code asks too.
+//! The words that the other rooms' contracts are written in (`specs/Terms.antt`), with those of them that code asks too. Each is the library's
+//! own test, and stays a function, since contracts above cite its definition.
 #![tactic(auto)]
 
 ghost use Rattle.std.specs.Prelude.{◌≡◌, min};

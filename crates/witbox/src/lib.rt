@@ -20,7 +20,7 @@ ghost use Rattle.witbox.specs.Hosts.{span, open_numbers, step_numbers, count_num
 use answers::{Place, Position, Span};
 use listing::Listing;
 
-// struct witbox_opened
+// struct witbox_opened. Here and below, number, position and detail are fields of each struct, as in include/witbox.h.
 #[repr(C)]
 #[derive(Clone, Copy, Debug, PartialEq, Eq)]
 pub struct OpenAnswer {
