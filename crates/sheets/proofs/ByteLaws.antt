@@ -1,11 +1,11 @@
 -- What the search for a byte needs: bytes that are passed over, one by one and sixteen at a time.
-use Rattle.std.specs.Prelude.{if◌then◌else◌, Some, None, Option}
+use Rattle.std.specs.Prelude.{Some, None, Option}
 use Rattle.std.specs.List.{position_or_len}
 use Rattle.std.proofs.lemmas.List.Sums.{prefix_len-le-length, fails_before_first, passes_at_first}
 use Rattle.std.proofs.lemmas.List.{get_or-drop, drop-drop, length-drop}
 use Prim.Native.Nat.{ℕ, ◌+◌, ◌-◌, ◌≤◌, ◌<◌}
 use mathlib.Core.Path.{◌≡◌, refl, sym, ◌∙◌, ap}
-use mathlib.Core.Bool.{Bool, true, false, not}
+use mathlib.Core.Bool.{Bool, true, false, not, ◌||◌}
 use mathlib.Core.List.{List}
 use mathlib.Core.Logic.{◌⊎◌, inl, inr}
 use native.Mathlib.Nat.{eq-or-lt_of_le}
@@ -15,27 +15,28 @@ use lib.Seq.{get_or-take}
 use lib.Dec.{eqb, ltb}
 use borrow.Author.Tests.{ltb-true, ltb-false}
 use Rattle.terms.proofs.FirstLaws.{first_skip}
+use Rattle.terms.proofs.TestLaws.{clash}
 use Rattle.terms.specs.Terms.{first}
 use Rattle.sheets.specs.inner.Bytes.{holds, byte_from, Rest}
 use Rattle.sheets.specs.inner.Found.{before}
 use Rattle.sheets.proofs.FoundLaws.{index_found, end_reached, found_here, found_none}
 
 module _ (bs : List ℕ) (x : ℕ) where
-  -- 0 means that none of the first i bytes is x
-  abbrev pub NoneOf : ℕ → ℕ → Type 0
-  NoneOf any i = any ≡ 0 → (j : ℕ) → j < i → holds bs x j ≡ false
+  -- no means that none of the first i bytes is x
+  abbrev pub NoneOf : Bool → ℕ → Type 0
+  NoneOf any i = any ≡ false → (j : ℕ) → j < i → holds bs x j ≡ false
 
-  pub none_yet : NoneOf 0 0
+  pub none_yet : NoneOf false 0
   none_yet e j l = absurd (omega arith)
 
-  pub none_more : (any i : ℕ) → NoneOf any i → (any' : ℕ) → any' ≡ (if eqb (get_or bs i 0) x then 1 else any) → NoneOf any' (i + 1)
+  pub none_more : (any : Bool) (i : ℕ) → NoneOf any i → NoneOf (any || eqb (get_or bs i 0) x) (i + 1)
   unfolding holds
-  none_more any i h any' q e j l = go (eqb (get_or bs i 0) x) refl (sym q ∙ e) (eq-or-lt_of_le (omega arith))
+  none_more true i h e j l = absurd (clash true refl e)
+  none_more false i h e j l = go (eq-or-lt_of_le (omega arith))
     where
-      go : (t : Bool) → eqb (get_or bs i 0) x ≡ t → (if t then 1 else any) ≡ 0 → (j ≡ i) ⊎ (j < i) → eqb (get_or bs j 0) x ≡ false
-      go true p z w = absurd (omega arith)
-      go false p z (inl m) = rw m p
-      go false p z (inr m) = h z j m
+      go : (j ≡ i) ⊎ (j < i) → eqb (get_or bs j 0) x ≡ false
+      go (inl m) = rw m e
+      go (inr m) = h refl j m
 
 -- the loop of `skip`
 pub rest_start : (bs : List ℕ) (x : ℕ) → Rest bs x bs

@@ -1,22 +1,15 @@
 //! A byte looked for in bytes, sixteen at a time.
-ghost use Rattle.std.specs.Prelude.{◌≡◌, false, ℕ, ◌<◌, length, eqb, if◌then◌else◌};
+ghost use Rattle.std.specs.Prelude.{◌≡◌, false, ℕ, ◌<◌, length};
 ghost use Rattle.sheets.specs.inner.Bytes.{holds, byte_from, Rest};
 ghost use Rattle.sheets.specs.inner.Found.{before};
 
-// 1 where the byte is x, else what was seen before.
-fn seen(b: u8, x: u8, any: u8) -> u8
-    ensures { result ≡ (if eqb b x then 1 else any) }
+// No only where none of the sixteen bytes is x: no branch, so that the bytes are compared all at once.
+fn any_of(bytes: &[u8; 16], x: u8) -> bool
+    ensures { result ≡ false → (j : ℕ) → j < 16 → holds bytes.now x j ≡ false }
 {
-    if b == x { 1 } else { any }
-}
-
-// 0 only where none of the sixteen bytes is x: no branch, so that the bytes are compared all at once.
-fn any_of(bytes: &[u8; 16], x: u8) -> u8
-    ensures { result ≡ 0 → (j : ℕ) → j < 16 → holds bytes.now x j ≡ false }
-{
-    let mut any = 0;
+    let mut any = false;
     for b in bytes {
-        any = seen(*b, x, any);
+        any |= *b == x;
     }
     any
 }
@@ -27,7 +20,7 @@ fn skip(bytes: &[u8], x: u8) -> &[u8]
 {
     let mut rest = bytes;
     while let Some((chunk, tail)) = rest.split_first_chunk::<16>() {
-        if any_of(chunk, x) != 0 {
+        if any_of(chunk, x) {
             return rest;
         }
         rest = tail;

@@ -11,4 +11,4 @@ loop-chunk-smaller c = omega (arith, c.in-Some.ensures.cases.2)
 pub loop-chunk-preserved : goal.loop-chunk-preserved
 loop-chunk-preserved c =
     let parts = c.in-Some.ensures.cases in
-    rest_more _ _ _ c.loop-chunk.invariant _ _ parts.0 parts.1 parts.2 (c.any_of.ensures c.if-any_of-ne0.false)
+    rest_more _ _ _ c.loop-chunk.invariant _ _ parts.0 parts.1 parts.2 (c.any_of.ensures c.if-any_of.false)
