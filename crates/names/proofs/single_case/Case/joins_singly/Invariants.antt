@@ -1,6 +1,6 @@
 -- Each byte before k may stand behind the one before it.
 use Rattle.names.specs.inner.OneCase.{Follow}
-use Rattle.names.proofs.single_case.joined_singly.Given as goal
+use Rattle.names.proofs.single_case.Case.joins_singly.Given as goal
 
 abbrev pub invariant-loop-k : goal.invariant-loop-k
-invariant-loop-k l = Follow l.text l.low l.from l.k
+invariant-loop-k l = Follow l.text l.self.low l.from l.k
