@@ -31,6 +31,7 @@ pub struct Edges<'a> {
 #[derive(Drop)]
 pub struct State {
     // of each item, how many of its edges have a target that is not placed; 4,096 more where the item itself is placed
+    // (one array says both, so that the scan for the next item goes over one alone: a flag in a second would be scanned too)
     pub left: [u16; 256],
     // the items that are placed, in their order: an array and how much of it is used, for there is no heap
     pub order: [u8; 256],

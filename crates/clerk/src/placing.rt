@@ -45,6 +45,7 @@ impl State {
         requires { Tracks (edges_in edges) self.old × (self.old.placed < 256) × (member x (placed_of self.old) ≡ false) }
         ensures { Placed (edges_in edges.entry) self.old x self.new }
     {
+        // no `for`: each search goes on behind the place that the one before it found
         let mut from = 0;
         while let Some(k) = sheets::byte_from(edges.targets, from, x) {
             self.left[edges.owners[k] as usize] -= 1;

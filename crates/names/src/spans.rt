@@ -60,7 +60,7 @@ fn named(text: &[u8], start: Position, first: Place, last: Place) -> Named
 }
 
 // The plain identifier that a span names: 1, 2, 22, then its parts.
-// Two names, since a theorem speaks of each (proofs/OneAnswer.antt), as of the two that C calls below: what they share is in `named` and `part`.
+// Two names, since C has a call of each and a theorem speaks of each (proofs/OneAnswer.antt), as of the two `parse` below; one `named` is under both.
 #[tactic(auto, unfolding(answers::specs::Caps::first_of, crate::specs::Names::plain_id, crate::specs::Names::plain_verdict, crate::specs::Names::named_by), using(answers::proofs::CapsLaws::text_in, crate::proofs::NameLaws::span_lies))]
 pub fn validate_id(text: &[u8], offset: u32, span: Span) -> Named
     ensures { result ≡ plain_id text.now offset span }

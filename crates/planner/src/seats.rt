@@ -3,6 +3,7 @@ ghost use Rattle.std.specs.Prelude.{◌≤◌};
 ghost use Rattle.planner.specs.inner.Seats as S;
 
 // Of each item its index in the list, and how many words have their seats.
+// An array with room for every item that there can be, for there is no heap.
 #[derive(Drop)]
 pub struct Seats {
     pub index: [Option<u8>; 256],

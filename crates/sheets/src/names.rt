@@ -40,6 +40,7 @@ impl<'a> Index<'a> {
         requires { signature ≡ signature_of name.now }
         ensures { result ≡ before (length self.entry.signatures.now) (found self.entry.sheet.words.all.now self.entry.sheet.names.now (length self.entry.signatures.now) name.now) }
     {
+        // no `for`: each search goes on behind the place that the one before it found
         let mut from = 0;
         while let Some(i) = byte_from(self.signatures, from, signature) {
             if terms::same(self.sheet.name(i), name) {

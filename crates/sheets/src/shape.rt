@@ -67,6 +67,8 @@ impl<'a> Sheet<'a> {
         self.words.listed()
     }
 
+    // A row is a number in the next three: as a type it would carry the sheet, and `one_name` ask that two rows carry the same, which is no plainer.
+
     // Where a row's name starts in the names.
     pub(crate) fn name_at(self, row: usize) -> usize
         requires { row < W.items self.words.all.now + W.listed self.words.all.now }
