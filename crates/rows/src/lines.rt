@@ -13,7 +13,8 @@ pub struct Line<'a> {
     pub before: &'a [u8],
 }
 
-// Behind the newline before the place, or where the text starts for people: behind a byte order mark.
+// Behind the newline before the place, or where the text starts for people: behind a byte order mark. A place within a text is asked for here and
+// below, and made at one call alone: a type for it is no plainer.
 fn start(text: &[u8], at: usize) -> usize
     requires { at ≤ length text.now }
     ensures { result ≤ at }

@@ -53,6 +53,7 @@ fn print_row(
     writeln!(out, " \"{}\"", Quoted(bytes))
 }
 
+// By the option of the command line: a closure for each of the two steps is no plainer.
 fn step(text: &[u8], at: Place, form: Form) -> Moved {
     if form.is_filtered {
         steps::next_at(text, 0, at)
