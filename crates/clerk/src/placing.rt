@@ -82,11 +82,7 @@ impl State {
         requires { Tracks (edges_in edges) self.now }
         ensures { result ≡ before (length (edges_in edges.entry)) (first_stuck (edges_in edges.entry) (placed_of self.now)) }
     {
-        for k in 0..edges.owners.len() {
-            if self.is_unplaced(edges.owners[k]) && self.is_unplaced(edges.targets[k]) {
-                return Some(k);
-            }
-        }
-        None
+        let mut rows = edges.owners.iter().zip(edges.targets);
+        rows.position(|(item, target)| self.is_unplaced(*item) && self.is_unplaced(*target))
     }
 }

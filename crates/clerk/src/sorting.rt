@@ -23,6 +23,7 @@ fn write_order(s: &State, order: &mut [u32])
     requires { (s.now.placed ≤ length order.old) × (s.now.placed ≤ 256) }
     ensures { order.new ≡ over (placed_of s.now) order.old }
 {
+    // by index: tried as `order.iter_mut().zip(..)`, whose turns have no index that its invariant can name, and the proof did not close
     for i in 0..s.placed {
         order[i] = u32::from(s.order[i]);
     }
