@@ -29,6 +29,7 @@ fn answer(rt: &impl Files, alloc: Global, out: &mut impl Write, asked: Asked) ->
     }
 }
 
+// `order` has these lines too: a function for both would take what each answers as a closure, and say no more.
 fn run(rt: &(impl Env + Files + Print), alloc: Global) -> io::Result<()> {
     let arguments = files::arguments(rt, alloc)?;
     let mut out = BufWriter::new(alloc, io::writer(rt))?;

@@ -92,7 +92,7 @@ pub(crate) fn step_answer(found: Moved, cursor: &mut u32) -> StepAnswer
     StepAnswer::from(found.step)
 }
 
-// How many rows a listing has, or bytes a string.
+// How many rows a listing has, or bytes a string. What differs from `OpenAnswer` is a field's name, as in include/witbox.h.
 impl From<Result<u32, Refusal>> for CountAnswer {
     ghost from_gives = { λ counted answer. answer ≡ count_of counted };
 
