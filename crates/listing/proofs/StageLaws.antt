@@ -1,14 +1,15 @@
 -- The walk of a listing: what it holds on the way, and that what it delivers is the listing.
 use Rattle.std.specs.Prelude.{None, Some, Ok, Err, if◌then◌else◌}
-use Prim.Native.Nat.{ℕ, ◌+◌, ◌*◌, ◌≤◌, ◌<◌}
+use Prim.Native.Nat.{ℕ, suc, ◌+◌, ◌*◌, ◌≤◌, ◌<◌}
 use mathlib.Core.Path.{◌≡◌, refl, sym, ap, subst, ◌∙◌}
 use mathlib.Core.Bool.{Bool, true, false}
 use mathlib.Core.List.{List, [], ◌∷◌, ◌++◌, append-nil, append_assoc}
 use native.Mathlib.Omega.{arith}
 use native.Mathlib.Nat.{add-zero}
-use lib.ListN.{length, take, drop, length-append, length-take, length-drop, take-append-drop}
+use lib.ListN.{length, set, take, drop, length-append, length-take, length-drop, take-append-drop}
 use lib.Dec.{leb}
-use lib.Seq.{take_at, drop_at, drop-drop}
+use Rattle.kinds.specs.Kinds.{kind_of}
+use lib.Seq.{take_at, drop_at, drop-drop, sets-eq}
 use borrow.Author.Tests.{le-leb, lt-leb, leb-true}
 use Rattle.terms.specs.Terms.{over}
 use Rattle.answers.specs.declared.Place.{Place}
@@ -59,6 +60,15 @@ put_over xs ys b =
 put_none : (at : ℕ) (b : List ℕ) → put at [] b ≡ b
 unfolding put
 put_none at b = rw (add-zero, take-append-drop)
+
+-- the words of a row, one by one
+pub put_words : (at : ℕ) (r : Row) (b : List ℕ) → at + row_words ≤ length b
+    → set (set (set b at (kind_of r.kind)) (at + 1) r.span.start.0) (at + 2) r.span.end.0 ≡ put at (words_of r) b
+unfolding put words_of
+put_words at r b h =
+    let one : at + 1 ≡ suc at = omega arith in
+    let two : at + 2 ≡ suc (suc at) = omega arith in
+    rw (one, two) (sets-eq (kind_of r.kind ∷ r.span.start.0 ∷ r.span.end.0 ∷ []) b at h ∙ append_assoc (take at b) (kind_of r.kind ∷ r.span.start.0 ∷ r.span.end.0 ∷ []) (drop (at + 3) b))
 
 -- a token's row: there is none, there is no room for it, or it is put
 module _ (l : Listing) (kind : Token) (span : Span) (n : ℕ) (stage : List ℕ) where
