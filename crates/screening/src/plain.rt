@@ -64,6 +64,8 @@ fn stop_near(text: &[u8], from: usize, end: usize, less: [u8; 3]) -> usize
 }
 
 // The first place from `at` on whose byte is one of `less` or not plain; else the end.
+// Joined with each caller, so that the bytes of `less` are constants in the loop.
+#[inline(always)]
 pub fn plain_end(text: &[u8], at: Place, less: [u8; 3]) -> Place
     ensures { result ≡ plain_end text.now less at }
 {
