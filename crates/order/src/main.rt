@@ -13,7 +13,7 @@ mod wrong;
 use options::Task;
 use std::alloc::Global;
 use std::io;
-use std::io::{BufWriter, ErrorKind, Write};
+use std::io::{ErrorKind, Stdout, Write};
 use std::rt::{Env, Files};
 use wrong::Wrong;
 
@@ -45,18 +45,20 @@ fn answer<'a>(
 }
 
 // What is wrong is said in place of the answer.
-fn run(rt: &(impl Env + Files + Print), alloc: Global) -> io::Result<()> {
+fn run(rt: &(impl Env + Files), alloc: Global, to: Stdout) -> io::Result<()> {
     let arguments = files::arguments(rt, alloc)?;
-    let mut out = BufWriter::new(alloc, io::writer(rt))?;
-    if let Err(wrong) = answer(rt, alloc, &mut out, Task::from(arguments.as_slice())) {
-        wrong.say(&mut out)?;
-    }
-    out.flush()
+    let mut out = files::output(to);
+    let said = match answer(rt, alloc, &mut out, Task::from(arguments.as_slice())) {
+        Ok(()) => Ok(()),
+        Err(wrong) => wrong.say(&mut out),
+    };
+    out.flush()?;
+    said
 }
 
 // Where standard output takes no more there is no one to tell, and the exit status says nothing.
 fn main(rt: HostRuntime) {
-    if let Err(error) = run(&rt, rt.alloc()) {
+    if let Err(error) = run(&rt, rt.alloc(), rt.stdout()) {
         if error.kind() == ErrorKind::OutOfMemory {
             let _ = rt.println("memory ran out");
         }

@@ -11,7 +11,7 @@ mod stepping;
 use options::{Asked, USAGE};
 use std::alloc::Global;
 use std::io;
-use std::io::{BufWriter, ErrorKind, Write};
+use std::io::{ErrorKind, Stdout, Write};
 use std::rt::{Env, Files};
 
 // Prints what is asked for, or what is wrong with the question or the file.
@@ -30,16 +30,17 @@ fn answer(rt: &impl Files, alloc: Global, out: &mut impl Write, asked: Asked) ->
 }
 
 // `order` has these lines too: a function for both would take what each answers as a closure, and say no more.
-fn run(rt: &(impl Env + Files + Print), alloc: Global) -> io::Result<()> {
+fn run(rt: &(impl Env + Files), alloc: Global, to: Stdout) -> io::Result<()> {
     let arguments = files::arguments(rt, alloc)?;
-    let mut out = BufWriter::new(alloc, io::writer(rt))?;
-    answer(rt, alloc, &mut out, Asked::from(arguments.as_slice()))?;
-    out.flush()
+    let mut out = files::output(to);
+    let answered = answer(rt, alloc, &mut out, Asked::from(arguments.as_slice()));
+    out.flush()?;
+    answered
 }
 
 // Where standard output takes no more there is no one to tell, and the exit status says nothing.
 fn main(rt: HostRuntime) {
-    if let Err(error) = run(&rt, rt.alloc()) {
+    if let Err(error) = run(&rt, rt.alloc(), rt.stdout()) {
         if error.kind() == ErrorKind::OutOfMemory {
             let _ = rt.println("memory ran out");
         }
