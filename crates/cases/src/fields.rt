@@ -1,4 +1,6 @@
 //! The numbers, bytes and words that a field says. For bytes and words `-` says none, and `N*x` says x N times.
+ghost use Rattle.std.specs.Prelude.{◌<◌, IfOk};
+
 use crate::fault::Fault;
 use std::alloc::Global;
 use std::str;
@@ -12,7 +14,9 @@ pub(crate) fn decimal(field: &[u8]) -> Result<u32, Fault> {
 }
 
 // A hexadecimal digit's value.
-fn hex_digit(digit: u8) -> Result<u8, Fault> {
+fn hex_digit(digit: u8) -> Result<u8, Fault>
+    ensures { IfOk result (λ value. value < 16) }
+{
     match digit {
         b'0'..=b'9' => Ok(digit - b'0'),
         b'a'..=b'f' => Ok(digit - b'a' + 10),
