@@ -1,12 +1,12 @@
 -- The second walk of decoding: the copy of the bytes up to a mark, and what a turn adds as it is stored (`specs/inner/Writing.antt`).
-use Prim.Native.Nat.{ℕ, ◌≤◌, ◌<◌, ◌+◌, ◌-◌}
-use mathlib.Core.Path.{◌≡◌, ap, ◌∙◌}
+use Prim.Native.Nat.{ℕ, suc, ◌≤◌, ◌<◌, ◌+◌, ◌-◌}
+use mathlib.Core.Path.{◌≡◌, refl, ap, subst, ◌∙◌}
 use mathlib.Core.Bool.{true}
 use mathlib.Core.List.{List, [], ◌∷◌, ◌++◌, append-nil, append_assoc}
 use native.Mathlib.Omega.{arith}
 use Rattle.std.specs.Prelude.{Option, Some, unwrap_or}
-use lib.ListN.{length, set, take, drop, length-drop, drop_of_length-le}
-use lib.Seq.{paste, take-length, length-take-le, take_all, drop-drop, sets-eq}
+use lib.ListN.{length, get_or, set, take, drop, length-drop, drop_of_length-le}
+use lib.Seq.{paste, paste-suc, take-length, length-take-le, take_all, drop-drop, sets-eq}
 use borrow.Author.Tests.{le-leb}
 use Rattle.terms.specs.Terms.{over}
 use Rattle.terms.proofs.FirstLaws.{first_le}
@@ -15,6 +15,22 @@ use Rattle.chars.specs.Utf8.{is_scalar, encode, encoded}
 use Rattle.strings.specs.declared.More.TheVariants.{One, Whole}
 use Rattle.strings.specs.Strings.{added}
 use Rattle.strings.specs.inner.Writing.{marked, unmarked, copied, stored}
+
+-- copying bytes to the front of a buffer, one by one
+module _ (bytes before : List ℕ) (g : length bytes ≤ length before) (k : ℕ) (after : List ℕ) (e : after ≡ paste before 0 bytes k) where
+  pub pasted_on : k < length bytes → set after k (get_or bytes k 0) ≡ paste before 0 bytes (k + 1)
+  pasted_on l =
+      let z : 0 + k ≡ k = omega arith in
+      let n : suc k ≡ k + 1 = omega arith in
+      let one : set (paste before 0 bytes k) (0 + k) (get_or bytes k 0) ≡ paste before 0 bytes (k + 1) =
+      paste-suc before 0 bytes k 0 (omega arith) (omega arith) ∙ rw n in
+      rw e (subst (λ (j : ℕ). set (paste before 0 bytes k) j (get_or bytes k 0) ≡ paste before 0 bytes (k + 1)) z one)
+
+  pub pasted_all : k ≡ length bytes → after ≡ over bytes before
+  pasted_all l =
+      let z : 0 + length bytes ≡ length bytes = omega arith in
+      let t : take (length bytes) bytes ≡ bytes = take-length bytes in
+      rw (e, l) (subst (λ (j : ℕ). paste before 0 bytes (length bytes) ≡ take (length bytes) bytes ++ drop j before) z refl ∙ rw t)
 
 -- copying the r bytes that are unmarked, to the front of the buffer b
 module _ (s : List ℕ) (p : Place) where
@@ -30,20 +46,18 @@ module _ (s : List ℕ) (p : Place) where
         let x : r ≡ 0 = omega arith in
         rw (x, ← k)
 
-    pub copied_fits : 0 < r → unmarked s p ≤ length b → length (take r b) ≡ length (take (p.0 + r - p.0) (drop p.0 s))
+    pub copied_fits : 0 < r → unmarked s p ≤ length b → length (take (p.0 + r - p.0) (drop p.0 s)) ≤ length b
     copied_fits z room =
         let i = unmarked_in (rw e at z) in
         let x : p.0 + r - p.0 ≡ r = omega arith in
         let l : r ≤ length (drop p.0 s) = rw length-drop (omega arith) in
-        rw (x, length-take-le r b (omega arith), length-take-le r (drop p.0 s) l)
+        rw (x, length-take-le r (drop p.0 s) l) (omega arith)
 
-    pub copied_some : 0 < r → (r, take (p.0 + r - p.0) (drop p.0 s) ++ drop r b) ≡ copied s p b
+    pub copied_some : 0 < r → (r, over (take (p.0 + r - p.0) (drop p.0 s)) b) ≡ copied s p b
     unfolding copied
     copied_some z =
         let x : p.0 + r - p.0 ≡ r = omega arith in
-        let i = unmarked_in (rw e at z) in
-        let l : length (take (unmarked s p) (drop p.0 s)) ≡ unmarked s p = length-take-le _ _ (rw length-drop (omega arith)) in
-        rw (x, e, l)
+        rw (x, e)
 
 -- storing what a turn adds
 module _ (v : List ℕ) where
