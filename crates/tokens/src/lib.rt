@@ -24,12 +24,13 @@ pub enum Rule {
     Classed,
 }
 
-// A raw token: its kind, its span, and the place behind it.
+// A raw token: its kind, the place behind it, and its span.
+// The place stands before the span: with the span's end before it, both are read at once, where they were stored one by one, and a listing waits for that.
 #[derive(Clone, Copy, Debug, PartialEq, Eq)]
 pub struct Lexeme {
     pub kind: Token,
-    pub span: Span,
     pub next: Place,
+    pub span: Span,
 }
 
 // What a raw step answers: a token, or none where the text ends; or a refusal.
