@@ -48,6 +48,8 @@ fn check_percent(text: &[u8], offset: u32, span: Span) -> Verdict
 }
 
 // The identifier from one place to another, by its parts. Most are of one case, so that comes first.
+// Joined with each caller, so that its answer is not handed over in memory.
+#[inline(always)]
 #[tactic(auto, unfolding(crate::specs::Names::named_by))]
 fn named(text: &[u8], start: Position, first: Place, last: Place) -> Named
     requires { (last.0 ≤ length text.now) × (last.0 ≤ cap) }
