@@ -88,11 +88,10 @@ pub(crate) fn check<'a>(
     order: &Source<'a>,
     source: &Source<'a>,
 ) -> Result<(), Wrong<'a>> {
-    let names = lists::order(alloc, order.name, order.text.as_slice())?;
+    let names = lists::order(alloc, order.name, order.text.as_slice(), MOST)?;
     let list = List::read(alloc, source.name, source.text.as_slice())?;
     let sheet = Sheet::new(alloc, list.items.as_slice())?;
-    let first = &names.as_slice()[..names.len().min(MOST)];
-    let proposed = indices(alloc, &list, first)?;
+    let proposed = indices(alloc, &list, names.as_slice())?;
     match planner::check_order(
         sheet.words.as_slice(),
         sheet.names.as_slice(),
@@ -104,7 +103,14 @@ pub(crate) fn check<'a>(
         }
         // 33 is about the order, the other refusals are about the list.
         Err(refusal @ Refusal::NotAnOrder(index)) => {
-            Ok(print_wrong(out, order.name, first, &list, refusal, index as usize)?)
+            Ok(print_wrong(
+                out,
+                order.name,
+                names.as_slice(),
+                &list,
+                refusal,
+                index as usize,
+            )?)
         }
         Err(refusal) => refuse(out, source.name, &list, refusal, 0),
     }

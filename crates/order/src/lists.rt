@@ -1,7 +1,12 @@
 //! A list of items with what each needs, and an order, which is names alone.
-use crate::words::{Line, Word, lines, words};
+use crate::words::{Line, Word, words};
 use crate::wrong::{Fault, Wrong};
 use std::alloc::Global;
+
+// One more than a sheet may have, by which it is too long. What stands behind so many is read, since a line may be wrong, but not kept.
+const MOST_ITEMS: usize = 257;
+
+const MOST_NEEDS: usize = 2049;
 
 /// An item, and the names of what it needs.
 #[derive(Debug, Drop)]
@@ -16,11 +21,12 @@ pub struct List<'t> {
     pub items: Vec<Item<'t>>,
 }
 
-// The item of a line, where one stands there: its name, a colon, and what it needs.
+// The item of a line, where one stands there: its name, a colon, and what it needs; of more than so many needs the first.
 fn item_of<'a, 't>(
     alloc: Global,
     file: &'a [u8],
     line: Line<'t>,
+    most: usize,
 ) -> Result<Option<Item<'t>>, Wrong<'a>> {
     let wrong = |fault| Wrong::Line {
         file,
@@ -28,7 +34,7 @@ fn item_of<'a, 't>(
         fault,
     };
     let mut parts = line.bytes.split(|&b| b == b':');
-    let names = words(alloc, parts.next().unwrap_or(&[]), line.number)?;
+    let names = words(alloc, parts.next().unwrap_or(&[]), line.number, 2)?;
     let Some(behind) = parts.next() else {
         return if names.is_empty() {
             Ok(None)
@@ -40,21 +46,23 @@ fn item_of<'a, 't>(
         [] => Err(wrong(Fault::NoName)),
         [name] if parts.next().is_none() => Ok(Some(Item {
             name: *name,
-            needs: words(alloc, behind, line.number)?,
+            needs: words(alloc, behind, line.number, most)?,
         })),
         [_] => Err(wrong(Fault::SecondColon)),
         _ => Err(wrong(Fault::NoColon)),
     }
 }
 
-/// The names of an order.
+/// The names of an order; of more than so many the first.
 pub(crate) fn order<'a, 't>(
     alloc: Global,
     file: &'a [u8],
     text: &'t [u8],
+    most: usize,
 ) -> Result<Vec<Word<'t>>, Wrong<'a>> {
     let mut names = Vec::new(alloc);
-    for line in &lines(alloc, text)? {
+    for (number, bytes) in (1..).zip(text.split(|&b| b == b'\n')) {
+        let line = Line::new(number, bytes);
         if line.bytes.contains(&b':') {
             return Err(Wrong::Line {
                 file,
@@ -62,7 +70,8 @@ pub(crate) fn order<'a, 't>(
                 fault: Fault::ColonInOrder,
             });
         }
-        names.extend_from_slice(words(alloc, line.bytes, line.number)?.as_slice())?;
+        let room = most.saturating_sub(names.len());
+        names.extend_from_slice(words(alloc, line.bytes, line.number, room)?.as_slice())?;
     }
     Ok(names)
 }
@@ -74,9 +83,13 @@ impl<'t> List<'t> {
         text: &'t [u8],
     ) -> Result<List<'t>, Wrong<'a>> {
         let mut items = Vec::new(alloc);
-        for line in &lines(alloc, text)? {
-            if let Some(item) = item_of(alloc, file, *line)? {
-                items.push(item)?;
+        let mut room = MOST_NEEDS;
+        for (number, bytes) in (1..).zip(text.split(|&b| b == b'\n')) {
+            if let Some(item) = item_of(alloc, file, Line::new(number, bytes), room)? {
+                if items.len() < MOST_ITEMS {
+                    room = room.saturating_sub(item.needs.len());
+                    items.push(item)?;
+                }
             }
         }
         Ok(List { items })
