@@ -13,21 +13,38 @@ mod tally;
 
 use sequences::sequences;
 use sheet::{Edge, Sheet};
+use std::alloc::{AllocError, Global};
 use std::io;
 use tally::Tally;
 
-fn main(rt: HostRuntime) -> io::Result<()> {
-    let alloc = rt.alloc();
-    let listings = sequences(alloc, 5, &Edge::ALL)?;
-    let lists = sequences(alloc, 3, &[0, 1, 2, 3])?;
-    let mut tally = Tally::default();
+// Tries each listing that has so many more dependencies at most behind these. They are too many to be kept.
+fn try_listings(
+    alloc: Global,
+    tally: &mut Tally,
+    lists: &[Vec<u32>],
+    edges: &mut Vec<Edge>,
+    more: u32,
+) -> Result<(), AllocError> {
     for items in 0..4 {
-        for edges in &listings {
-            if let Some(sheet) = Sheet::new(items, edges) {
-                tally.count(alloc, sheet, &lists)?;
-            }
+        if let Some(sheet) = Sheet::new(items, edges) {
+            tally.count(alloc, sheet, lists)?;
         }
     }
+    if 0 < more {
+        for edge in Edge::ALL {
+            edges.push(edge)?;
+            try_listings(alloc, tally, lists, edges, more - 1)?;
+            edges.pop();
+        }
+    }
+    Ok(())
+}
+
+fn main(rt: HostRuntime) -> io::Result<()> {
+    let alloc = rt.alloc();
+    let lists = sequences(alloc, 3, &[0, 1, 2, 3])?;
+    let mut tally = Tally::default();
+    try_listings(alloc, &mut tally, &lists, &mut Vec::new(alloc), 5)?;
     println!(rt; "{tally}")?;
     caps::print_all(&rt)
 }
