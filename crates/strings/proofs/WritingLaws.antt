@@ -1,63 +1,77 @@
 -- The second walk of decoding: the copy of the bytes up to a mark, and what a turn adds as it is stored (`specs/inner/Writing.antt`).
 use Prim.Native.Nat.{ℕ, suc, ◌≤◌, ◌<◌, ◌+◌, ◌-◌}
 use mathlib.Core.Path.{◌≡◌, refl, ap, subst, ◌∙◌}
-use mathlib.Core.Bool.{true}
+use mathlib.Core.Bool.{true, false}
 use mathlib.Core.List.{List, [], ◌∷◌, ◌++◌, append-nil, append_assoc}
 use native.Mathlib.Omega.{arith}
 use Rattle.std.specs.Prelude.{Option, Some, unwrap_or}
 use lib.ListN.{length, get_or, set, take, drop, length-drop, drop_of_length-le}
-use lib.Seq.{paste, paste-suc, take-length, length-take-le, take_all, drop-drop, sets-eq}
+use lib.Seq.{paste, paste-zero, paste-suc, take-length, length-take-le, take_all, drop-drop, get_or-drop, sets-eq}
 use borrow.Author.Tests.{le-leb}
-use Rattle.terms.specs.Terms.{over}
-use Rattle.terms.proofs.FirstLaws.{first_le}
+use Rattle.terms.specs.Terms.{over, first}
+use Rattle.terms.proofs.FirstLaws.{first_miss, first_hit, first_end, first_from}
 use Rattle.answers.specs.declared.Place.{Place}
 use Rattle.chars.specs.Utf8.{is_scalar, encode, encoded}
 use Rattle.strings.specs.declared.More.TheVariants.{One, Whole}
 use Rattle.strings.specs.Strings.{added}
 use Rattle.strings.specs.inner.Writing.{marked, unmarked, copied, stored}
 
--- copying bytes to the front of a buffer, one by one
-module _ (bytes before : List ℕ) (g : length bytes ≤ length before) (k : ℕ) (after : List ℕ) (e : after ≡ paste before 0 bytes k) where
-  pub pasted_on : k < length bytes → set after k (get_or bytes k 0) ≡ paste before 0 bytes (k + 1)
-  pasted_on l =
-      let z : 0 + k ≡ k = omega arith in
-      let n : suc k ≡ k + 1 = omega arith in
-      let one : set (paste before 0 bytes k) (0 + k) (get_or bytes k 0) ≡ paste before 0 bytes (k + 1) =
-      paste-suc before 0 bytes k 0 (omega arith) (omega arith) ∙ rw n in
-      rw e (subst (λ (j : ℕ). set (paste before 0 bytes k) j (get_or bytes k 0) ≡ paste before 0 bytes (k + 1)) z one)
+-- copying: k of the text is reached, and the buffer was b
+module _ (s : List ℕ) (p : Place) (b : List ℕ) where
+  pub record Copied (k : ℕ) (v : List ℕ) : Type 0 where
+    pub begun : p.0 ≤ k
+    pub inside : k - p.0 ≤ length s - p.0
+    pub rest : unmarked s p ≡ first (marked s) k (length s - k) - p.0
+    pub filled : v ≡ paste b 0 (drop p.0 s) (k - p.0)
 
-  pub pasted_all : k ≡ length bytes → after ≡ over bytes before
-  pasted_all l =
-      let z : 0 + length bytes ≡ length bytes = omega arith in
-      let t : take (length bytes) bytes ≡ bytes = take-length bytes in
-      rw (e, l) (subst (λ (j : ℕ). paste before 0 bytes (length bytes) ≡ take (length bytes) bytes ++ drop j before) z refl ∙ rw t)
-
--- copying the r bytes that are unmarked, to the front of the buffer b
-module _ (s : List ℕ) (p : Place) where
-  pub unmarked_in : 0 < unmarked s p → p.0 + unmarked s p ≤ length s
+  pub copied_none : Copied p.0 b
   unfolding unmarked
-  unmarked_in z = omega (arith, first_le (marked s) (length s - p.0) p.0)
+  copied_none =
+      let z : p.0 - p.0 ≡ 0 = omega arith in
+      record { begun = omega arith; inside = omega arith; rest = refl; filled = rw z (paste-zero b 0 (drop p.0 s)) }
 
-  module _ (b : List ℕ) (r : ℕ) (e : r ≡ unmarked s p) where
-    pub copied_none : r ≤ 0 → (r, b) ≡ copied s p b
+  module _ (k : ℕ) (v : List ℕ) (c : Copied k v) where
+    -- at a mark, or at the end
+    ends : first (marked s) k (length s - k) ≡ k → (k - p.0, v) ≡ copied s p b
     unfolding copied
-    copied_none z =
-        let k : 0 ≡ unmarked s p = omega arith in
-        let x : r ≡ 0 = omega arith in
-        rw (x, ← k)
+    ends e =
+        let u : unmarked s p ≡ k - p.0 = c.rest ∙ rw e in
+        let l : length (take (k - p.0) (drop p.0 s)) ≡ k - p.0 = length-take-le _ _ (rw length-drop c.inside) in
+        let z : 0 + (k - p.0) ≡ k - p.0 = omega arith in
+        let f : paste b 0 (drop p.0 s) (k - p.0) ≡ take (k - p.0) (drop p.0 s) ++ drop (k - p.0) b =
+        subst (λ (j : ℕ). paste b 0 (drop p.0 s) (k - p.0) ≡ take (k - p.0) (drop p.0 s) ++ drop j b) z refl in
+        rw (u, l, c.filled, f)
 
-    pub copied_fits : 0 < r → unmarked s p ≤ length b → length (take (p.0 + r - p.0) (drop p.0 s)) ≤ length b
-    copied_fits z room =
-        let i = unmarked_in (rw e at z) in
-        let x : p.0 + r - p.0 ≡ r = omega arith in
-        let l : r ≤ length (drop p.0 s) = rw length-drop (omega arith) in
-        rw (x, length-take-le r (drop p.0 s) l) (omega arith)
+    pub copied_mark : k < length s → marked s k ≡ true → (k - p.0, v) ≡ copied s p b
+    copied_mark l e = ends (first_hit (marked s) k (length s) l e)
 
-    pub copied_some : 0 < r → (r, over (take (p.0 + r - p.0) (drop p.0 s)) b) ≡ copied s p b
-    unfolding copied
-    copied_some z =
-        let x : p.0 + r - p.0 ≡ r = omega arith in
-        rw (x, e)
+    pub copied_end : length s ≤ k → (k - p.0, v) ≡ copied s p b
+    copied_end l = ends (first_end (marked s) k (length s) l)
+
+    -- past a byte that is none
+    module _ (room : unmarked s p ≤ length b) (l : k < length s) (e : marked s k ≡ false) where
+      on : unmarked s p ≡ first (marked s) (k + 1) (length s - (k + 1)) - p.0
+      on = c.rest ∙ rw (first_miss (marked s) k (length s) l e)
+
+      pub copied_next : k - p.0 < length b
+      copied_next = omega (arith, room, on, first_from (marked s) (length s - (k + 1)) (k + 1), c.begun)
+
+      pub copied_on : Copied (k + 1) (set v (k - p.0) (get_or s k 0))
+      copied_on =
+          let h : p.0 + (k - p.0) ≡ k = omega (arith, c.begun) in
+          let i : suc (k - p.0) ≡ k + 1 - p.0 = omega (arith, c.begun) in
+          let j : k - p.0 < length (drop p.0 s) = rw length-drop (omega (arith, c.begun)) in
+          let g : get_or (drop p.0 s) (k - p.0) 0 ≡ get_or s k 0 = get_or-drop p.0 s (k - p.0) 0 ∙ rw h in
+          let z : 0 + (k - p.0) ≡ k - p.0 = omega arith in
+          let more : set (paste b 0 (drop p.0 s) (k - p.0)) (0 + (k - p.0)) (get_or (drop p.0 s) (k - p.0) 0) ≡ paste b 0 (drop p.0 s) (k + 1 - p.0) =
+          paste-suc b 0 (drop p.0 s) (k - p.0) 0 (omega (arith, copied_next)) j ∙ rw i in
+          record {
+            begun = omega (arith, c.begun);
+            inside = omega (arith, c.begun);
+            rest = on;
+            filled = rw (c.filled, ← g)
+                (subst (λ m. set (paste b 0 (drop p.0 s) (k - p.0)) m (get_or (drop p.0 s) (k - p.0) 0) ≡ paste b 0 (drop p.0 s) (k + 1 - p.0)) z more);
+          }
 
 -- storing what a turn adds
 module _ (v : List ℕ) where

@@ -1,6 +1,5 @@
 //! Decoding: the value of a string that a span names, into a lent buffer.
 ghost use Rattle.std.specs.Prelude.{◌≡◌, [], ◌+◌, ◌≤◌, length};
-ghost use Rattle.terms.specs.Terms.{over};
 ghost use Rattle.answers.specs.Caps.{cap};
 ghost use Rattle.chars.specs.View.{folded_from};
 ghost use Rattle.strings.specs.declared.Inside.TheVariants.{Plain};
@@ -21,40 +20,21 @@ fn is_mark(b: u8) -> bool
     matches!(b, 0x22 | 0x5C)
 }
 
-// How many bytes from a place on are no mark.
-fn unmarked(text: &[u8], at: Place) -> usize
-    ensures { result ≡ unmarked text.now at }
+// The bytes of the text from a place on, as far as no quote and no backslash stands, to the front of a buffer; how many.
+// By hand, in one walk: the library's `copy_from_slice` calls memmove, which a host without a C library would have to bring, and a second walk for
+// the copy takes a quarter more time.
+fn copy_raw(text: &[u8], at: Place, buffer: &mut [u8]) -> usize
+    requires { unmarked text.now at ≤ length buffer.old }
+    ensures { (result, buffer.new) ≡ copied text.now at buffer.old }
 {
     let start = at.0 as usize;
     for k in start..text.len() {
         if is_mark(text[k]) {
             return k - start;
         }
+        buffer[k - start] = text[k];
     }
     text.len().saturating_sub(start)
-}
-
-// The bytes to the front of a buffer. By hand: the library's `copy_from_slice` calls memmove, which a host without a C library would have to bring.
-fn copy(bytes: &[u8], buffer: &mut [u8])
-    requires { length bytes.now ≤ length buffer.old }
-    ensures { buffer.new ≡ over bytes.now buffer.old }
-{
-    for k in 0..bytes.len() {
-        buffer[k] = bytes[k];
-    }
-}
-
-// The bytes of the text from a place on, as far as no quote and no backslash stands, to the front of a buffer; how many.
-fn copy_raw(text: &[u8], at: Place, buffer: &mut [u8]) -> usize
-    requires { unmarked text.now at ≤ length buffer.old }
-    ensures { (result, buffer.new) ≡ copied text.now at buffer.old }
-{
-    let run = unmarked(text, at);
-    if 0 < run {
-        let start = at.0 as usize;
-        copy(&text[start..start + run], buffer);
-    }
-    run
 }
 
 impl More {
