@@ -91,7 +91,13 @@ pub(crate) fn check<'a>(
     let names = lists::order(alloc, order.name, order.text.as_slice(), MOST)?;
     let list = List::read(alloc, source.name, source.text.as_slice())?;
     let sheet = Sheet::new(alloc, list.items.as_slice())?;
-    let proposed = indices(alloc, &list, names.as_slice())?;
+    // of a list that is too long no name is looked up: it is refused whatever the order is
+    let asked = if list.items.len() < MOST {
+        names.len()
+    } else {
+        0
+    };
+    let proposed = indices(alloc, &list, &names.as_slice()[..asked])?;
     match planner::check_order(
         sheet.words.as_slice(),
         sheet.names.as_slice(),

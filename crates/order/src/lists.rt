@@ -1,5 +1,5 @@
 //! A list of items with what each needs, and an order, which is names alone.
-use crate::words::{Line, Word, words};
+use crate::words::{Line, Word, is_blank, words};
 use crate::wrong::{Fault, Wrong};
 use std::alloc::Global;
 
@@ -21,34 +21,37 @@ pub struct List<'t> {
     pub items: Vec<Item<'t>>,
 }
 
-// The item of a line, where one stands there: its name, a colon, and what it needs; of more than so many needs the first.
+// The item of a line that is not blank: its name, a colon, and what it needs; of more than so many needs the first.
 fn item_of<'a, 't>(
     alloc: Global,
     file: &'a [u8],
     line: Line<'t>,
     most: usize,
-) -> Result<Option<Item<'t>>, Wrong<'a>> {
+) -> Result<Item<'t>, Wrong<'a>> {
     let wrong = |fault| Wrong::Line {
         file,
         line: line.number,
         fault,
     };
     let mut parts = line.bytes.split(|&b| b == b':');
-    let names = words(alloc, parts.next().unwrap_or(&[]), line.number, 2)?;
+    let mut names = parts
+        .next()
+        .unwrap_or(&[])
+        .split(|&b| is_blank(b))
+        .filter(|name| !name.is_empty());
     let Some(behind) = parts.next() else {
-        return if names.is_empty() {
-            Ok(None)
-        } else {
-            Err(wrong(Fault::NoColon))
-        };
+        return Err(wrong(Fault::NoColon));
     };
-    match names.as_slice() {
-        [] => Err(wrong(Fault::NoName)),
-        [name] if parts.next().is_none() => Ok(Some(Item {
-            name: *name,
+    match (names.next(), names.next(), parts.next()) {
+        (None, _, _) => Err(wrong(Fault::NoName)),
+        (Some(bytes), None, None) => Ok(Item {
+            name: Word {
+                bytes,
+                line: line.number,
+            },
             needs: words(alloc, behind, line.number, most)?,
-        })),
-        [_] => Err(wrong(Fault::SecondColon)),
+        }),
+        (Some(_), None, Some(_)) => Err(wrong(Fault::SecondColon)),
         _ => Err(wrong(Fault::NoColon)),
     }
 }
@@ -63,6 +66,9 @@ pub(crate) fn order<'a, 't>(
     let mut names = Vec::new(alloc);
     for (number, bytes) in (1..).zip(text.split(|&b| b == b'\n')) {
         let line = Line::new(number, bytes);
+        if line.is_blank() {
+            continue;
+        }
         if line.bytes.contains(&b':') {
             return Err(Wrong::Line {
                 file,
@@ -85,11 +91,17 @@ impl<'t> List<'t> {
         let mut items = Vec::new(alloc);
         let mut room = MOST_NEEDS;
         for (number, bytes) in (1..).zip(text.split(|&b| b == b'\n')) {
-            if let Some(item) = item_of(alloc, file, Line::new(number, bytes), room)? {
-                if items.len() < MOST_ITEMS {
-                    room = room.saturating_sub(item.needs.len());
-                    items.push(item)?;
-                }
+            let line = Line::new(number, bytes);
+            if line.is_blank() {
+                continue;
+            }
+            if items.len() == MOST_ITEMS {
+                room = 0;
+            }
+            let item = item_of(alloc, file, line, room)?;
+            if items.len() < MOST_ITEMS {
+                room = room.saturating_sub(item.needs.len());
+                items.push(item)?;
             }
         }
         Ok(List { items })

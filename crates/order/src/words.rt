@@ -20,6 +20,16 @@ impl<'t> Line<'t> {
         let bytes = line.split(|&b| b == b'#').next().unwrap_or(line);
         Line { bytes, number }
     }
+
+    /// No name stands there, and no colon.
+    pub(crate) fn is_blank(&self) -> bool {
+        self.bytes.iter().all(|&b| is_blank(b))
+    }
+}
+
+/// What stands between names.
+pub(crate) fn is_blank(b: u8) -> bool {
+    matches!(b, b' ' | b'\t' | b'\r')
 }
 
 /// The names that stand in a part of a line, with blanks between; of more than so many the first.
@@ -30,7 +40,7 @@ pub(crate) fn words(
     most: usize,
 ) -> Result<Vec<Word<'_>>, AllocError> {
     let mut words = Vec::new(alloc);
-    for bytes in part.split(|&b| matches!(b, b' ' | b'\t' | b'\r')) {
+    for bytes in part.split(|&b| is_blank(b)) {
         if !bytes.is_empty() && words.len() < most {
             words.push(Word { bytes, line })?;
         }
