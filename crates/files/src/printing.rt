@@ -1,6 +1,8 @@
 //! Standard output, by a buffer of its own: a listing has many short pieces, and a call to the system for each would be slow. An array, and no
 //! BufWriter, since that takes memory and can fail.
-ghost use Rattle.std.specs.Prelude.{◌≡◌, ◌≤◌};
+ghost use Rattle.std.specs.Prelude.{◌≡◌, ◌≤◌, None, IsOk};
+ghost use Rattle.std.specs.Io.{WritesAtMost};
+ghost use Rattle.std.specs.Io.KnownBytes.{Keeps, WriteAppends};
 
 use std::io;
 use std::io::{Stdout, Write};
@@ -27,7 +29,11 @@ pub fn output(to: Stdout) -> Out
 }
 
 impl Write for Out {
-    fn write(&mut self, buf: &[u8]) -> io::Result<usize> {
+    fn write(&mut self, buf: &[u8]) -> io::Result<usize>
+        ensures bound { WritesAtMost result buf.now }
+        ensures bytes { WriteAppends None None result buf.now }
+        ensures never_fails { IsOk result }
+    {
         if self.used == self.kept.len() {
             self.flush()?;
         }
@@ -37,7 +43,10 @@ impl Write for Out {
         Ok(n)
     }
 
-    fn flush(&mut self) -> io::Result<()> {
+    fn flush(&mut self) -> io::Result<()>
+        ensures bytes { Keeps None None }
+        ensures never_fails { IsOk result }
+    {
         let _ = Print::write_all(&self.to, &self.kept[..self.used]);
         self.used = 0;
         Ok(())
