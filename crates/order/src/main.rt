@@ -28,6 +28,8 @@ fn answer<'a>(
         Task::Sort(file) => {
             let source = files::load(rt, alloc, file)?;
             if let Some(settled) = sorting::print(alloc, out, &source, clerk::toposort)? {
+                // the names go out before the rest is tried
+                out.flush()?;
                 writeln!(out, "settled {settled}")?;
             }
             Ok(())

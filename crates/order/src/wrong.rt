@@ -45,7 +45,7 @@ pub enum Wrong<'a> {
         file: &'a [u8],
         refusal: Refusal,
     },
-    /// Memory ran out, or standard output takes no more.
+    /// Memory ran out, or the writer takes no more.
     Lost(io::Error),
 }
 

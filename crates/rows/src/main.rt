@@ -24,6 +24,8 @@ fn answer(rt: &impl Files, alloc: Global, out: &mut impl Write, asked: Asked) ->
         },
         Asked::Wrong(wrong) => {
             wrong.say(out)?;
+            // what is wrong goes out before the rest is tried
+            out.flush()?;
             out.write_all(USAGE.as_bytes())
         }
     }

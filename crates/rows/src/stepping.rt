@@ -13,7 +13,7 @@ use steps::Moved;
 #[derive(Clone, Copy, Debug)]
 enum Stop {
     Refused(Refusal),
-    // standard output takes no more
+    // the writer takes no more
     Lost(io::Error),
 }
 
