@@ -1,7 +1,7 @@
 //! Runs: bytes of one set, passed over at once. A character of one byte is its byte, so the rules above use this where it is faster.
-ghost use Rattle.std.specs.Prelude.{◌≡◌, min, length, ltb, if◌then◌else◌};
+ghost use Rattle.std.specs.Prelude.{◌≡◌, ◌<◌, min, length, ltb, if◌then◌else◌};
 ghost use Rattle.answers.specs.Caps.{cap};
-ghost use Rattle.chars.specs.inner.Runs.{in_set, run_end};
+ghost use Rattle.chars.specs.inner.Runs.{in_set, stops_at, run_end};
 
 use crate::AsciiSet;
 use answers::Place;
@@ -32,13 +32,22 @@ pub fn limit(text: &[u8]) -> usize
     text.len().min(65536)
 }
 
+// The byte at k is not of the set: a run ends there. The proof of `run_end` goes by this clause, and so not by how the test is written.
+#[inline(always)]
+fn stops_at(text: &[u8], k: usize, set: AsciiSet) -> bool
+    requires { k < length text.now }
+    ensures { result ≡ stops_at text.now set k }
+{
+    !has(set, text[k] as u32)
+}
+
 // The first place from `at` on whose byte is not of the set, or the end.
 pub fn run_end(text: &[u8], at: Place, set: AsciiSet) -> Place
     ensures { result ≡ run_end text.now set at }
 {
     let end = limit(text);
     for k in at.0 as usize..end {
-        if !has(set, text[k] as u32) {
+        if stops_at(text, k, set) {
             return Place(k as u32);
         }
     }

@@ -8,14 +8,15 @@ use Rattle.chars.proofs.runs.run_end.Goals as goal
 pub loop-k-init : goal.loop-k-init
 loop-k-init c = (omega arith, refl)
 
-pub returns-then-not-has : goal.returns-then-not-has
+pub returns-then-stops_at : goal.returns-then-stops_at
 unfolding run_end
-returns-then-not-has c =
-    sym (ap place (rw (← c.limit-end.ensures) (c.loop-k.invariant.1 ∙ first_hit _ _ _ c.loop-k-test.true (rw (← c.has.ensures, c.if-not-has.true)))))
+returns-then-stops_at c =
+    sym (ap place (rw (← c.limit-end.ensures)
+        (c.loop-k.invariant.1 ∙ first_hit _ _ _ c.loop-k-test.true (sym c.stops_at.ensures ∙ c.if-stops_at.true))))
 
 pub loop-k-preserved : goal.loop-k-preserved
 loop-k-preserved c =
-    (omega arith, c.loop-k.invariant.1 ∙ first_miss _ _ _ c.loop-k-test.true (rw (← c.has.ensures, c.if-not-has.false)))
+    (omega arith, c.loop-k.invariant.1 ∙ first_miss _ _ _ c.loop-k-test.true (sym c.stops_at.ensures ∙ c.if-stops_at.false))
 
 pub returns : goal.returns
 unfolding run_end
