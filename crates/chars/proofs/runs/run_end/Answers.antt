@@ -11,8 +11,7 @@ loop-k-init c = (omega arith, refl)
 pub returns-then-stops_at : goal.returns-then-stops_at
 unfolding run_end
 returns-then-stops_at c =
-    sym (ap place (rw (← c.limit-end.ensures)
-        (c.loop-k.invariant.1 ∙ first_hit _ _ _ c.loop-k-test.true (sym c.stops_at.ensures ∙ c.if-stops_at.true))))
+    sym (ap place (rw (← c.limit-end.ensures) (c.loop-k.invariant.1 ∙ first_hit _ _ _ c.loop-k-test.true (sym c.stops_at.ensures ∙ c.if-stops_at.true))))
 
 pub loop-k-preserved : goal.loop-k-preserved
 loop-k-preserved c =
