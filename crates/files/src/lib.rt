@@ -10,7 +10,7 @@ mod loading;
 mod printing;
 mod refusals;
 
-pub use args::{Argument, arguments};
+pub use args::Argument;
 pub use faults::{Complaint, Fault};
 pub use given::{argument, argument_count};
 pub use lines::line_behind;

@@ -1,51 +1,60 @@
-//! The file that an argument names.
-ghost use Rattle.std.specs.Prelude.{◌≤◌, vec_len, IfOk};
+//! The file that an argument names, read into a lent buffer.
+ghost use Rattle.std.specs.Prelude.{◌≤◌, length, IfOk};
 
 use crate::{Argument, Complaint, Fault};
-use std::alloc::Global;
 use std::io::Read;
 use std::rt::Files;
-use std::{fs, str};
+use std::{fs, io, str};
 
 // The most bytes that a text, or the names of a sheet, may have.
 const CAP: usize = 65536;
 
 /// A file that was read whole: its name, and its bytes.
-#[derive(Drop)]
+#[derive(Clone, Copy, Debug)]
 pub struct Source<'a> {
     pub name: &'a [u8],
-    pub text: Vec<u8>,
-    ghost in_cap: { vec_len text ≤ 65536 },
+    pub text: &'a [u8],
+    ghost in_cap: { length text.now ≤ 65536 },
 }
 
-// A byte more than the cap is read, so that a longer file is told from one that just fits.
-fn read(rt: &impl Files, alloc: Global, path: &[u8]) -> Result<Vec<u8>, Fault>
-    ensures { IfOk result (λ text. vec_len text ≤ 65536) }
+// Reads up to the end of the file or of the buffer. No `for`: how many reads it takes is the system's choice.
+fn fill(file: &mut impl Read, buffer: &mut [u8]) -> io::Result<usize>
+    ensures { IfOk result (λ n. n ≤ length buffer.new) }
 {
-    let file = fs::open(rt, str::from_utf8(path)?)?;
-    let mut text = Vec::new(alloc);
-    file.take(CAP as u64 + 1).read_to_end(&mut text)?;
-    if text.len() > CAP {
+    let mut done = 0;
+    while done < buffer.len() {
+        match file.read(&mut buffer[done..])? {
+            0 => break,
+            n => done += n,
+        }
+    }
+    Ok(done)
+}
+
+fn read<'a>(rt: &impl Files, path: &[u8], buffer: &'a mut [u8]) -> Result<&'a [u8], Fault>
+    ensures { IfOk result (λ text. length text.now ≤ 65536) }
+{
+    let mut file = fs::open(rt, str::from_utf8(path)?)?;
+    let n = fill(&mut file, buffer)?;
+    if n > CAP {
         return Err(Fault::TooLong);
     }
-    Ok(text)
+    Ok(&buffer[..n])
 }
 
-/// Reads the file of this name.
+/// Reads the file of this name to the front of the buffer. That should have room for a byte more than the cap, so that a longer file is told from
+/// one that just fits; of a longer file than the buffer no more is read.
 pub fn load<'a>(
     rt: &impl Files,
-    alloc: Global,
-    argument: &'a Argument,
+    argument: Argument<'a>,
+    buffer: &'a mut [u8],
 ) -> Result<Source<'a>, Complaint<'a>>
-    ensures { IfOk result (λ source. vec_len source.text ≤ 65536) }
+    ensures { IfOk result (λ source. length source.text.now ≤ 65536) }
 {
     let (name, read) = match argument {
         Argument::TooLong => (b"an argument".as_slice(), Err(Fault::NameTooLong)),
-        Argument::Bytes(bytes) if bytes.is_empty() => (
-            b"an empty argument".as_slice(),
-            Err(Fault::NoName),
-        ),
-        Argument::Bytes(bytes) => (bytes.as_slice(), read(rt, alloc, bytes.as_slice())),
+        Argument::Bytes(b"") => (b"an empty argument".as_slice(), Err(Fault::NoName)),
+        Argument::Bytes(name) => (name, read(rt, name, buffer)),
     };
     match read {
         Ok(text) => Ok(Source { name, text }),
@@ -60,9 +69,9 @@ mod tests {
 
     #[test]
     fn tells_files_apart(rt: HostRuntime) -> Result<(), Fail> {
-        let alloc = rt.alloc();
-        let empty = Argument::Bytes(b"/dev/null".to_vec(alloc)?);
-        assert_eq!(rt; load(&rt, alloc, &empty)?.text.len(), 0);
+        let mut buffer = [0; 65537];
+        let empty = Argument::Bytes(b"/dev/null");
+        assert_eq!(rt; load(&rt, empty, &mut buffer)?.text.len(), 0);
         let cases: [(&[u8], Fault); 5] = [
             (b"/dev/zero", Fault::TooLong),
             (b"/dev", Fault::IsADirectory),
@@ -71,8 +80,9 @@ mod tests {
             (b"", Fault::NoName),
         ];
         for (name, fault) in cases {
-            let argument = Argument::Bytes(name.to_vec(alloc)?);
-            let found = load(&rt, alloc, &argument).err().map(|c| c.fault);
+            let found = load(&rt, Argument::Bytes(name), &mut buffer)
+                .err()
+                .map(|c| c.fault);
             assert_eq!(rt; found, Some(fault));
         }
         Ok(())

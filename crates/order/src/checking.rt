@@ -1,63 +1,65 @@
 //! A proposed order, checked against a list. What is wrong with it is said by the names of its items.
-use crate::lists;
-use crate::lists::List;
-use crate::sheet::Sheet;
+use crate::kept::Kept;
+use crate::lists::{List, MOST_ITEMS, Order};
+use crate::sheet::{Sheet, lay};
 use crate::sorting::refuse;
-use crate::words::Word;
+use crate::words::{Names, number};
 use crate::wrong::{Wrong, place};
 use answers::Refusal;
 use files::{InNumbers, InWords, Source};
-use std::alloc::{AllocError, Global};
 use std::io;
 use std::io::Write;
 
-// Of an order of more names the first 257 tell what is wrong: there are 256 items at most.
-const MOST: usize = 257;
-
-fn contains(names: &[Word], name: &[u8]) -> bool {
-    names.iter().any(|word| word.bytes == name)
-}
-
 // The index of the item of each name; the number of items where it names none, which the checker takes as a word that is no item.
-fn indices(alloc: Global, list: &List, names: &[Word]) -> Result<Vec<u32>, AllocError> {
-    let none = list.items.len();
-    names
-        .iter()
-        .map(|word| u32::try_from(list.index_of(word.bytes).unwrap_or(none)).unwrap_or(u32::MAX))
-        .collect(alloc)
+fn indices(list: &List<'_>, names: Names<'_>) -> Kept<u32, MOST_ITEMS> {
+    let none = list.items().len();
+    let mut indices = Kept::new();
+    for word in names.words {
+        indices.push(number(list.index_of(word.bytes(names.text)).unwrap_or(none)));
+    }
+    indices
 }
 
 // The list goes on where the order ends.
 fn print_short(
     out: &mut impl Write,
     file: &[u8],
-    order: &[Word],
-    list: &List,
+    order: Names<'_>,
+    list: &List<'_>,
     refusal: Refusal,
 ) -> io::Result<()> {
     out.write_all(file)?;
     write!(out, ": {}: it ends without ", InWords(refusal))?;
     let lacking = list
-        .items
+        .items()
         .iter()
-        .find(|item| !contains(order, item.name.bytes));
+        .find(|item| !order.has(item.name.bytes(list.text)));
     if let Some(item) = lacking {
-        out.write_all(item.name.bytes)?;
+        out.write_all(item.name.bytes(list.text))?;
     }
     writeln!(out, " {}", InNumbers(refusal))
 }
 
 // A name that is no item or comes again, or an item whose dependency does not stand before it.
-fn print_fault(out: &mut impl Write, before: &[Word], word: Word, list: &List) -> io::Result<()> {
-    let Some(item) = list.items.iter().find(|item| item.name.bytes == word.bytes) else {
+fn print_fault(
+    out: &mut impl Write,
+    before: Names<'_>,
+    name: &[u8],
+    list: &List<'_>,
+) -> io::Result<()> {
+    let Some(item) = list.item_of(name) else {
         return write!(out, " is no item of the list");
     };
-    if contains(before, word.bytes) {
+    if before.has(name) {
         return write!(out, " comes again");
     }
     write!(out, " needs ")?;
-    if let Some(need) = item.needs.iter().find(|need| !contains(before, need.bytes)) {
-        out.write_all(need.bytes)?;
+    let unmet = list
+        .needs_of(item)
+        .iter()
+        .find(|need| !before.has(need.bytes(list.text)));
+    if let Some(need) = unmet {
+        out.write_all(need.bytes(list.text))?;
     }
     write!(out, ", which does not stand before it")
 }
@@ -66,53 +68,55 @@ fn print_fault(out: &mut impl Write, before: &[Word], word: Word, list: &List) -
 fn print_wrong(
     out: &mut impl Write,
     file: &[u8],
-    order: &[Word],
-    list: &List,
+    order: Names<'_>,
+    list: &List<'_>,
     refusal: Refusal,
     index: usize,
 ) -> io::Result<()> {
-    let Some(word) = order.get(index) else {
+    let Some(word) = order.words.get(index) else {
         return print_short(out, file, order, list, refusal);
     };
-    place(out, file, word.line)?;
+    let name = word.bytes(order.text);
+    place(out, file, word.line(order.text))?;
     write!(out, "{}: ", InWords(refusal))?;
-    out.write_all(word.bytes)?;
-    print_fault(out, &order[..index], *word, list)?;
+    out.write_all(name)?;
+    print_fault(out, order.before(index), name, list)?;
     writeln!(out, " {}", InNumbers(refusal))
 }
 
 /// Says whether an order is a load order of a list.
 pub(crate) fn check<'a>(
-    alloc: Global,
     out: &mut impl Write,
     order: &Source<'a>,
     source: &Source<'a>,
 ) -> Result<(), Wrong<'a>> {
-    let names = lists::order(alloc, order.name, order.text.as_slice(), MOST)?;
-    let list = List::read(alloc, source.name, source.text.as_slice())?;
-    let sheet = Sheet::new(alloc, list.items.as_slice())?;
+    let proposed = Order::read(order.name, order.text)?;
+    let mut list = List::new(source.text);
+    list.read(source.name)?;
+    let mut sheet = Sheet::new();
+    lay(&mut sheet, &list);
     // of a list that is too long no name is looked up: it is refused whatever the order is
-    let asked = if list.items.len() < MOST {
-        names.len()
+    let asked = if list.is_too_long() {
+        proposed.names().before(0)
     } else {
-        0
+        proposed.names()
     };
-    let proposed = indices(alloc, &list, &names.as_slice()[..asked])?;
-    match planner::check_order(
-        sheet.words.as_slice(),
-        sheet.names.as_slice(),
-        proposed.as_slice(),
-    ) {
+    let verdict = planner::check_order(
+        sheet.as_slice(),
+        list.text,
+        indices(&list, asked).as_slice(),
+    );
+    match verdict {
         Ok(()) => {
             out.write_all(order.name)?;
-            Ok(writeln!(out, ": a load order of {} items", list.items.len())?)
+            Ok(writeln!(out, ": a load order of {} items", list.items().len())?)
         }
         // 33 is about the order, the other refusals are about the list.
         Err(refusal @ Refusal::NotAnOrder(index)) => {
             Ok(print_wrong(
                 out,
                 order.name,
-                names.as_slice(),
+                proposed.names(),
                 &list,
                 refusal,
                 index as usize,

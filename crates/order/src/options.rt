@@ -1,5 +1,6 @@
 //! What the arguments ask for.
 use files::Argument;
+use std::rt::Env;
 
 pub const USAGE: &str = "\
     usage: order FILE\n\
@@ -14,26 +15,23 @@ pub const USAGE: &str = "\
     \x20 FILE:LINE: what is wrong (number, position, detail)\n\
     ";
 
-#[derive(Clone, Copy)]
-pub enum Task<'a> {
-    Sort(&'a Argument),
-    Propose(&'a Argument),
-    Check {
-        order: &'a Argument,
-        file: &'a Argument,
-    },
+/// What is asked for; files by the numbers of their arguments.
+#[derive(Clone, Copy, Debug)]
+pub enum Task {
+    Sort(usize),
+    Propose(usize),
+    Check { order: usize, file: usize },
     Help,
 }
 
-impl<'a> From<&'a [Argument]> for Task<'a> {
-    fn from(arguments: &'a [Argument]) -> Task<'a> {
-        match arguments {
-            [file] if !file.is_option() => Task::Sort(file),
-            [option, file] if option.as_bytes() == b"--propose".as_slice() => Task::Propose(file),
-            [option, order, file] if option.as_bytes() == b"--check".as_slice() => Task::Check {
-                order,
-                file,
-            },
+impl Task {
+    pub(crate) fn by(rt: &impl Env) -> Task {
+        let mut buffer = [0; 4096];
+        let first = Argument::at(rt, 1, &mut buffer).unwrap_or(Argument::TooLong);
+        match (first.as_bytes(), files::argument_count(rt)) {
+            (b"--propose", 3) => Task::Propose(2),
+            (b"--check", 4) => Task::Check { order: 2, file: 3 },
+            (_, 2) if !first.is_option() => Task::Sort(1),
             _ => Task::Help,
         }
     }

@@ -1,19 +1,18 @@
 //! The order that the clerk gives, or that our proposer offers, or what is wrong.
 use crate::lists::List;
-use crate::sheet::Sheet;
+use crate::sheet::{Sheet, lay};
 use crate::wrong::{Wrong, place};
 use answers::Refusal;
 use clerk::Sorted;
 use files::{InNumbers, InWords, Source};
-use std::alloc::Global;
 use std::io;
 use std::io::Write;
 
 // The items by their names.
 fn print_order(out: &mut impl Write, list: &List, order: &[u32]) -> io::Result<()> {
-    for &index in order.iter().take(list.items.len()) {
-        if let Some(item) = list.items.get(index as usize) {
-            out.write_all(item.name.bytes)?;
+    for &index in order.iter().take(list.items().len()) {
+        if let Some(item) = list.items().get(index as usize) {
+            out.write_all(item.name.bytes(list.text))?;
             writeln!(out)?;
         }
     }
@@ -29,11 +28,11 @@ fn print_need(
     refusal: Refusal,
 ) -> io::Result<()> {
     if let Some((item, need)) = list.need(index as usize) {
-        place(out, file, need.line)?;
+        place(out, file, need.line(list.text))?;
         write!(out, "{}: ", InWords(refusal))?;
-        out.write_all(item.name.bytes)?;
+        out.write_all(item.name.bytes(list.text))?;
         write!(out, " needs ")?;
-        out.write_all(need.bytes)?;
+        out.write_all(need.bytes(list.text))?;
     }
     Ok(())
 }
@@ -48,10 +47,10 @@ pub(crate) fn refuse<'a>(
 ) -> Result<(), Wrong<'a>> {
     match refusal {
         Refusal::RepeatedName(index) => {
-            if let Some(item) = list.items.get(index as usize) {
-                place(out, file, item.name.line)?;
+            if let Some(item) = list.items().get(index as usize) {
+                place(out, file, item.name.line(list.text))?;
                 write!(out, "{}: ", InWords(refusal))?;
-                out.write_all(item.name.bytes)?;
+                out.write_all(item.name.bytes(list.text))?;
             }
         }
         Refusal::ItemNotFound(index) => print_need(out, file, list, index, refusal)?,
@@ -67,7 +66,6 @@ pub(crate) fn refuse<'a>(
 
 /// Prints the order that a planner gives, and answers how many dependencies it settles; or prints what is wrong in its place, and answers `None`.
 pub(crate) fn print<'a, P>(
-    alloc: Global,
     out: &mut impl Write,
     source: &Source<'a>,
     planner: P,
@@ -76,10 +74,12 @@ where
     P: FnOnce(&[u32], &[u8], &mut [u32]) -> Sorted,
     requires { P.IsAlwaysCallable planner }
 {
-    let list = List::read(alloc, source.name, source.text.as_slice())?;
-    let sheet = Sheet::new(alloc, list.items.as_slice())?;
+    let mut list = List::new(source.text);
+    list.read(source.name)?;
+    let mut sheet = Sheet::new();
+    lay(&mut sheet, &list);
     let mut order = [0; 256];
-    let sorted = planner(sheet.words.as_slice(), sheet.names.as_slice(), &mut order);
+    let sorted = planner(sheet.as_slice(), list.text, &mut order);
     if let Err(refusal) = sorted.verdict {
         refuse(out, source.name, &list, refusal, sorted.settled)?;
         return Ok(None);

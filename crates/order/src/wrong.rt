@@ -1,7 +1,6 @@
 //! What is wrong with the files that are asked about.
 use answers::Refusal;
-use files::{Complaint, InNumbers, InWords};
-use std::alloc::{AllocError, AllocFailed};
+use files::{InNumbers, InWords};
 use std::io::Write;
 use std::{fmt, io};
 
@@ -31,10 +30,9 @@ pub(crate) fn place(out: &mut impl Write, file: &[u8], line: usize) -> io::Resul
     write!(out, ":{line}: ")
 }
 
-/// Why there is no answer.
+/// Why a list or an order that was read has no answer.
 #[derive(Clone, Copy, Debug)]
 pub enum Wrong<'a> {
-    File(Complaint<'a>),
     Line {
         file: &'a [u8],
         line: usize,
@@ -45,14 +43,8 @@ pub enum Wrong<'a> {
         file: &'a [u8],
         refusal: Refusal,
     },
-    /// Memory ran out, or the writer takes no more.
+    /// The writer takes no more.
     Lost(io::Error),
-}
-
-impl<'a> From<Complaint<'a>> for Wrong<'a> {
-    fn from(complaint: Complaint<'a>) -> Wrong<'a> {
-        Wrong::File(complaint)
-    }
 }
 
 impl From<io::Error> for Wrong<'_> {
@@ -61,23 +53,10 @@ impl From<io::Error> for Wrong<'_> {
     }
 }
 
-impl From<AllocError> for Wrong<'_> {
-    fn from(error: AllocError) -> Self {
-        Wrong::Lost(io::Error::from(error))
-    }
-}
-
-impl<T: Drop> From<AllocFailed<T>> for Wrong<'_> {
-    fn from(error: AllocFailed<T>) -> Self {
-        Wrong::Lost(io::Error::from(error))
-    }
-}
-
 impl Wrong<'_> {
     /// Says it in one line.
     pub(crate) fn say(self, out: &mut impl Write) -> io::Result<()> {
         match self {
-            Wrong::File(complaint) => complaint.say(out),
             Wrong::Line { file, line, fault } => {
                 place(out, file, line)?;
                 writeln!(out, "{fault}")

@@ -8,22 +8,32 @@ mod options;
 mod refusing;
 mod stepping;
 
-use options::{Asked, USAGE};
-use std::alloc::Global;
+use files::Argument;
+use options::{Asked, Form, USAGE};
 use std::io;
-use std::io::{ErrorKind, Stdout, Write};
+use std::io::Write;
 use std::rt::{Env, Files};
 
+// The tokens of the file that an argument names. Its name and its text lie here, for all that prints: they take no memory that can run out. A frame of
+// its own, since who asks for help is not to have room for them.
+#[inline(never)]
+fn list(rt: &(impl Env + Files), out: &mut impl Write, i: usize, form: Form) -> io::Result<()> {
+    let mut name = [0; 4096];
+    let mut text = [0; 65537];
+    let file = Argument::at(rt, i, &mut name).unwrap_or(Argument::TooLong);
+    match files::load(rt, file, &mut text) {
+        Ok(source) => stepping::print(out, source.name, source.text, form),
+        Err(complaint) => complaint.say(out),
+    }
+}
+
 // Prints what is asked for, or what is wrong with the question or the file.
-fn answer(rt: &impl Files, alloc: Global, out: &mut impl Write, asked: Asked) -> io::Result<()> {
-    match asked {
+fn answer(rt: &(impl Env + Files), out: &mut impl Write) -> io::Result<()> {
+    match Asked::by(rt) {
         Asked::Help => out.write_all(USAGE.as_bytes()),
-        Asked::Rows(file, form) => match files::load(rt, alloc, file) {
-            Ok(source) => stepping::print(out, source.name, source.text.as_slice(), form),
-            Err(complaint) => complaint.say(out),
-        },
+        Asked::Rows(file, form) => list(rt, out, file, form),
         Asked::Wrong(wrong) => {
-            wrong.say(out)?;
+            wrong.say(rt, out)?;
             // what is wrong goes out before the rest is tried
             out.flush()?;
             out.write_all(USAGE.as_bytes())
@@ -31,20 +41,9 @@ fn answer(rt: &impl Files, alloc: Global, out: &mut impl Write, asked: Asked) ->
     }
 }
 
-// `order` has these lines too: a function for both would take what each answers as a closure, and say no more.
-fn run(rt: &(impl Env + Files), alloc: Global, to: Stdout) -> io::Result<()> {
-    let arguments = files::arguments(rt, alloc)?;
-    let mut out = files::output(to);
-    let answered = answer(rt, alloc, &mut out, Asked::from(arguments.as_slice()));
-    out.flush()?;
-    answered
-}
-
-// Where standard output takes no more there is no one to tell, and the exit status says nothing.
+// Writing does not fail. Where standard output takes no more there is no one to tell, and the exit status says nothing.
 fn main(rt: HostRuntime) {
-    if let Err(error) = run(&rt, rt.alloc(), rt.stdout()) {
-        if error.kind() == ErrorKind::OutOfMemory {
-            let _ = rt.println("memory ran out");
-        }
-    }
+    let mut out = files::output(rt.stdout());
+    let _ = answer(&rt, &mut out);
+    out.flush();
 }

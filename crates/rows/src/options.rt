@@ -2,6 +2,7 @@
 use files::Argument;
 use std::io;
 use std::io::Write;
+use std::rt::Env;
 
 pub const USAGE: &str = "\
     usage: rows [--filtered] [--numbers] FILE\n\
@@ -22,36 +23,39 @@ pub struct Form {
     pub is_numbers: bool,
 }
 
-/// An argument that is no option, or one file too many.
+/// The number of an argument that is no option, or one file too many.
 #[derive(Clone, Copy, Debug)]
-pub enum Wrong<'a> {
-    NoOption(&'a [u8]),
-    SecondFile(&'a [u8]),
+pub enum Wrong {
+    NoOption(usize),
+    SecondFile(usize),
 }
 
-impl Wrong<'_> {
+impl Wrong {
     /// Says it in one line.
-    pub(crate) fn say(self, out: &mut impl Write) -> io::Result<()> {
-        let (what, word) = match self {
-            Wrong::NoOption(word) => ("no such option: ", word),
-            Wrong::SecondFile(word) => ("one file is wanted, and this is a second: ", word),
+    pub(crate) fn say(self, rt: &impl Env, out: &mut impl Write) -> io::Result<()> {
+        let (what, i) = match self {
+            Wrong::NoOption(i) => ("no such option: ", i),
+            Wrong::SecondFile(i) => ("one file is wanted, and this is a second: ", i),
         };
+        let mut word = [0; 4096];
+        let length = files::argument(rt, i, &mut word);
         out.write_all(what.as_bytes())?;
-        out.write_all(word)?;
+        out.write_all(&word[..length])?;
         writeln!(out)
     }
 }
 
-#[derive(Clone, Copy)]
-pub enum Asked<'a> {
-    Rows(&'a Argument, Form),
+/// What is asked for; a file by the number of its argument.
+#[derive(Clone, Copy, Debug)]
+pub enum Asked {
+    Rows(usize, Form),
     Help,
-    Wrong(Wrong<'a>),
+    Wrong(Wrong),
 }
 
-// With no file there is nothing to do but to say what the program is for.
-impl<'a> From<&'a [Argument]> for Asked<'a> {
-    fn from(arguments: &'a [Argument]) -> Asked<'a> {
+impl Asked {
+    /// With no file there is nothing to do but to say what the program is for.
+    pub(crate) fn by(rt: &impl Env) -> Asked {
         let mut form = Form {
             is_filtered: false,
             is_numbers: false,
@@ -59,14 +63,16 @@ impl<'a> From<&'a [Argument]> for Asked<'a> {
         let mut is_help = false;
         let mut file = None;
         let mut wrong = None;
-        for argument in arguments {
+        for i in 1..files::argument_count(rt) {
+            let mut buffer = [0; 4096];
+            let argument = Argument::at(rt, i, &mut buffer).unwrap_or(Argument::TooLong);
             match argument.as_bytes() {
                 b"--filtered" => form.is_filtered = true,
                 b"--numbers" => form.is_numbers = true,
                 b"--help" => is_help = true,
-                word if argument.is_option() => wrong = Some(Wrong::NoOption(word)),
-                word if file.is_some() => wrong = Some(Wrong::SecondFile(word)),
-                _ => file = Some(argument),
+                _ if argument.is_option() => wrong = Some(Wrong::NoOption(i)),
+                _ if file.is_some() => wrong = Some(Wrong::SecondFile(i)),
+                _ => file = Some(i),
             }
         }
         match (wrong, file) {
