@@ -2,7 +2,8 @@
 use crate::answer::Answer;
 use crate::chain;
 use crate::memory::Lent;
-use crate::tally::Tally;
+use crate::pieces::print;
+use crate::tally::{EDGES, Tally};
 use listing::Listing;
 use std::alloc::{AllocError, Global};
 
@@ -90,7 +91,7 @@ fn try_sheets(alloc: Global) -> Result<[bool; 4], AllocError> {
     ])
 }
 
-// An edge that differs is named by its number. There is no one to tell if that cannot be printed.
+// An edge that differs is named by its number.
 pub(crate) fn try_all(rt: &impl Print, alloc: Global, tally: &mut Tally) -> Result<(), AllocError> {
     let tries = try_rows(alloc)?
         .into_iter()
@@ -99,7 +100,7 @@ pub(crate) fn try_all(rt: &impl Print, alloc: Global, tally: &mut Tally) -> Resu
     for (n, is_same) in (1u32..).zip(tries) {
         tally.edges.add(is_same);
         if !is_same {
-            let _ = println!(rt; "edge {n} differs: edges");
+            print(rt, format_args!("edge {n} differs: {EDGES}\n"));
         }
     }
     Ok(())

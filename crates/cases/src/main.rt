@@ -12,6 +12,7 @@ mod fault;
 mod fields;
 mod lent;
 mod memory;
+mod pieces;
 mod replay;
 mod tally;
 
@@ -40,10 +41,9 @@ fn main(rt: HostRuntime) -> io::Result<()> {
     let mut tally = Tally::default();
     match open(&rt, path) {
         Ok(file) => replay::replay(&rt, alloc, file, &mut tally)?,
-        Err(error) => failing::fail(alloc, rt.stderr(), path, error)?,
+        Err(error) => failing::fail(rt.stderr(), path, error),
     }
     edges::try_all(&rt, alloc, &mut tally)?;
-    // there is no one to tell if it cannot be printed
-    let _ = print!(rt; "{tally}");
+    pieces::print(&rt, tally);
     Ok(())
 }

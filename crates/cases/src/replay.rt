@@ -1,6 +1,7 @@
 //! All lines of the list, from an open file.
 use crate::case::Case;
 use crate::fault::Fault;
+use crate::pieces::print;
 use crate::tally::Tally;
 use std::alloc::Global;
 use std::fs::File;
@@ -9,10 +10,10 @@ use std::io::{self, BufRead, BufReader, Read};
 // The most bytes that a line has, with its newline.
 const LONGEST: usize = 8192;
 
-// A line that cannot be read is named. There is no one to tell if that cannot be printed.
+// A line that cannot be read is named.
 fn name_malformed(rt: &impl Print, tally: &mut Tally, line: u32) {
     tally.add_malformed();
-    let _ = println!(rt; "line {line} is malformed");
+    print(rt, format_args!("line {line} is malformed\n"));
 }
 
 // One more line. One that differs is named.
@@ -28,7 +29,7 @@ fn replay_line(rt: &impl Print, alloc: Global, line: &[u8], tally: &mut Tally) -
             let is_same = case.is_met();
             tally.add_case(call, is_same);
             if !is_same {
-                let _ = println!(rt; "line {number} differs: {call}");
+                print(rt, format_args!("line {number} differs: {call}\n"));
             }
         }
         Err(Fault::Malformed) => name_malformed(rt, tally, number),

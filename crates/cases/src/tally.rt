@@ -2,6 +2,9 @@
 use crate::call::{CALLS, Call};
 use std::fmt;
 
+// What the program's own tries are called, which no line holds.
+pub const EDGES: &str = "edges";
+
 #[derive(Clone, Copy, Debug, Default, PartialEq, Eq)]
 pub struct Group {
     cases: u32,
@@ -17,9 +20,10 @@ impl Group {
     }
 }
 
+// The end of its line belongs to its last piece.
 impl fmt::Display for Group {
     fn fmt<W: fmt::Write>(&self, f: &mut fmt::Formatter<W>) -> fmt::Result {
-        write!(f, "{} cases, {} differ", self.cases, self.differ)
+        write!(f, "{} cases, {} differ\n", self.cases, self.differ)
     }
 }
 
@@ -29,7 +33,6 @@ pub struct Tally {
     comments: u32,
     malformed: u32,
     calls: [Group; CALLS],
-    // what no line holds: the program's own tries
     pub edges: Group,
 }
 
@@ -56,10 +59,10 @@ impl Tally {
 impl fmt::Display for Tally {
     fn fmt<W: fmt::Write>(&self, f: &mut fmt::Formatter<W>) -> fmt::Result {
         write!(f, "{} lines: {} comments, ", self.lines, self.comments)?;
-        writeln!(f, "{} malformed", self.malformed)?;
+        write!(f, "{} malformed\n", self.malformed)?;
         for (call, group) in Call::ALL.iter().zip(&self.calls) {
-            writeln!(f, "{call}: {group}")?;
+            write!(f, "{call}: {group}")?;
         }
-        writeln!(f, "edges: {}", self.edges)
+        write!(f, "{EDGES}: {}", self.edges)
     }
 }
