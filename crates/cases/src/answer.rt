@@ -22,13 +22,11 @@ pub struct Answer {
 const NO_KIND: u32 = 67;
 
 // The answer that a line's fields hold.
-impl TryFrom<&[&[u8]]> for Answer {
+impl TryFrom<[&[u8]; 7]> for Answer {
     type Error = Fault;
 
-    fn try_from(fields: &[&[u8]]) -> Result<Answer, Fault> {
-        let [number, position, detail, x, y, z, cursor] = fields else {
-            return Err(Fault::Malformed);
-        };
+    fn try_from(fields: [&[u8]; 7]) -> Result<Answer, Fault> {
+        let [number, position, detail, x, y, z, cursor] = fields;
         Ok(Answer {
             number: decimal(number)?,
             position: decimal(position)?,

@@ -2,47 +2,58 @@
 use crate::answer::Answer;
 use crate::call::Call;
 use crate::fault::Fault;
-use crate::fields::{Element, decimal, list};
+use crate::fields::{BYTES, WORDS, decimal, list};
 use crate::lent;
-use crate::memory::Lent;
+use crate::memory::{fill, is_as_wanted};
 use answers::{Position, Span};
 use listing::Listing;
-use std::alloc::Global;
 
-#[derive(Drop)]
-pub struct Case {
+// How many fields a line has.
+const FIELDS: usize = 17;
+
+// So much memory is enough for most calls. One that is lent more gets it in a frame of its own, which is not joined with its caller's: no other
+// call pays for it, and there is never room for bytes and for words at once.
+const SHORT: usize = 64;
+
+// The fields that list bytes or words are read when the call is made.
+#[derive(Clone, Copy, Debug)]
+pub struct Case<'a> {
     pub call: Call,
     // the text, or a sheet's names
-    text: Vec<u8>,
+    text: &'a [u8],
     offset: u32,
     // the wanted kind and 0, or a span's start and end
     a: u32,
     b: u32,
-    sheet: Vec<u32>,
+    // how many words or bytes the call is lent
+    room: usize,
+    sheet: &'a [u8],
     recorded: Answer,
     // where a step's cursor stands before it
     from: u32,
-    // a call is lent words, or bytes alone
-    table: Lent<u32>,
-    value: Lent<u8>,
+    // what should stand at the front of the lent memory
+    written: &'a [u8],
 }
 
-// The memory that a call is lent: a string a buffer of bytes, any other a table of words.
-fn lend(
-    alloc: Global,
-    call: Call,
-    room: &[u8],
-    written: &[u8],
-) -> Result<(Lent<u32>, Lent<u8>), Fault> {
-    match call {
-        Call::StringLiteral => Ok((Lent::none(alloc), Lent::read(alloc, room, written)?)),
-        _ => Ok((Lent::read(alloc, room, written)?, Lent::none(alloc))),
+// Finds the fields of a line: as many as there are places and no more, and none is empty.
+fn split<'a>(line: &'a [u8], fields: &mut [&'a [u8]]) -> Result<(), Fault> {
+    let mut parts = line.split(|byte| *byte == b' ');
+    for field in fields {
+        *field = parts.next().unwrap_or_default();
+        if field.is_empty() {
+            return Err(Fault::Malformed);
+        }
+    }
+    match parts.next() {
+        Some(_) => Err(Fault::Malformed),
+        None => Ok(()),
     }
 }
 
-impl Case {
-    pub(crate) fn read(alloc: Global, line: &[u8]) -> Result<Case, Fault> {
-        let fields: Vec<&[u8]> = line.split(|byte| *byte == b' ').collect(alloc)?;
+impl<'a> Case<'a> {
+    pub(crate) fn read(line: &'a [u8]) -> Result<Case<'a>, Fault> {
+        let mut fields = [line; FIELDS];
+        split(line, &mut fields)?;
         let [
             call,
             judge,
@@ -52,34 +63,30 @@ impl Case {
             b,
             room,
             sheet,
-            recorded @ ..,
+            number,
+            position,
+            detail,
+            x,
+            y,
+            z,
+            cursor,
             from,
             written,
-        ] = fields.as_slice()
-        else {
-            return Err(Fault::Malformed);
-        };
-        if fields.iter().any(|field| field.is_empty()) || !matches!(*judge, b"rust" | b"paper") {
+        ] = fields;
+        if !matches!(judge, b"rust" | b"paper") {
             return Err(Fault::Malformed);
         }
-        let call = Call::try_from(*call)?;
-        let (table, value) = lend(alloc, call, room, written)?;
-        // a string has none, and what stands there is not read
-        let sheet = match call {
-            Call::StringLiteral => Vec::new(alloc),
-            _ => list(alloc, sheet, u32::MOST)?,
-        };
         Ok(Case {
-            call,
-            text: list(alloc, text, u8::MOST)?,
+            call: Call::try_from(call)?,
+            text,
             offset: decimal(offset)?,
             a: decimal(a)?,
             b: decimal(b)?,
+            room: decimal(room)? as usize,
             sheet,
-            recorded: Answer::try_from(recorded)?,
+            recorded: Answer::try_from([number, position, detail, x, y, z, cursor])?,
             from: decimal(from)?,
-            table,
-            value,
+            written,
         })
     }
 
@@ -91,41 +98,74 @@ impl Case {
     }
 
     // Makes the call. One `match`, and no closure for each: the calls take other fields of the line.
-    fn answer(&mut self) -> Answer {
-        let span = self.span();
-        let text = &self.text;
+    fn answer(&self, text: &[u8], sheet: &[u32], table: &mut [u32], value: &mut [u8]) -> Answer {
+        let (offset, span) = (self.offset, self.span());
         match self.call {
-            Call::Open => steps::open(text, self.offset).into(),
-            Call::NextRaw => lent::next_raw(text, self.offset, self.from).into(),
-            Call::Next => lent::next(text, self.offset, self.from).into(),
-            Call::Eat => lent::eat(text, self.offset, self.from, self.a).into(),
-            Call::Expect => lent::expect(text, self.offset, self.from, self.a).into(),
-            Call::ListRaw => listing::list(
-                text,
-                self.offset,
-                Listing::Raw,
-                &mut self.table.memory,
-            ).into(),
-            Call::List => listing::list(
-                text,
-                self.offset,
-                Listing::Filtered,
-                &mut self.table.memory,
-            ).into(),
-            Call::StringLiteral => strings::string_literal(
-                text,
-                self.offset,
-                span,
-                &mut self.value.memory,
-            ).into(),
-            Call::Id => names::validate_id(text, self.offset, span).into(),
-            Call::ExplicitId => names::validate_explicit_id(text, self.offset, span).into(),
-            Call::Sort => clerk::toposort(&self.sheet, text, &mut self.table.memory).into(),
+            Call::Open => steps::open(text, offset).into(),
+            Call::NextRaw => lent::next_raw(text, offset, self.from).into(),
+            Call::Next => lent::next(text, offset, self.from).into(),
+            Call::Eat => lent::eat(text, offset, self.from, self.a).into(),
+            Call::Expect => lent::expect(text, offset, self.from, self.a).into(),
+            Call::ListRaw => listing::list(text, offset, Listing::Raw, table).into(),
+            Call::List => listing::list(text, offset, Listing::Filtered, table).into(),
+            Call::StringLiteral => strings::string_literal(text, offset, span, value).into(),
+            Call::Id => names::validate_id(text, offset, span).into(),
+            Call::ExplicitId => names::validate_explicit_id(text, offset, span).into(),
+            Call::Sort => clerk::toposort(sheet, text, table).into(),
         }
     }
 
-    // The call answers and writes what is recorded.
-    pub(crate) fn is_met(&mut self) -> bool {
-        self.answer() == self.recorded && self.table.is_as_wanted() && self.value.is_as_wanted()
+    // Makes the call of a string, lent bytes. A string has no sheet, and what stands there is not read. Behind the call the text is done with, and
+    // what the call should have written is laid in its place.
+    fn is_met_on_bytes(&self, value: &mut [u8], bytes: &mut [u8]) -> Result<bool, Fault> {
+        let value = value.get_mut(..self.room).ok_or(Fault::Malformed)?;
+        fill(value);
+        let text = list(self.text, bytes)?;
+        let answer = self.answer(text, &[], &mut [], value);
+        let written = list(
+            self.written,
+            bytes.get_mut(..self.room).ok_or(Fault::Malformed)?,
+        )?;
+        Ok(answer == self.recorded && is_as_wanted(value, written))
+    }
+
+    // The same of any other call, lent words, with the sheet done with behind it.
+    fn is_met_on_words(
+        &self,
+        table: &mut [u32],
+        bytes: &mut [u8],
+        words: &mut [u32],
+    ) -> Result<bool, Fault> {
+        let table = table.get_mut(..self.room).ok_or(Fault::Malformed)?;
+        fill(table);
+        let text = list(self.text, bytes)?;
+        let sheet = list(self.sheet, words)?;
+        let answer = self.answer(text, sheet, table, &mut []);
+        let written = list(
+            self.written,
+            words.get_mut(..self.room).ok_or(Fault::Malformed)?,
+        )?;
+        Ok(answer == self.recorded && is_as_wanted(table, written))
+    }
+
+    #[inline(never)]
+    fn is_met_on_many_bytes(&self, bytes: &mut [u8]) -> Result<bool, Fault> {
+        self.is_met_on_bytes(&mut [0; BYTES], bytes)
+    }
+
+    #[inline(never)]
+    fn is_met_on_many_words(&self, bytes: &mut [u8], words: &mut [u32]) -> Result<bool, Fault> {
+        self.is_met_on_words(&mut [0; WORDS], bytes, words)
+    }
+
+    // The call answers and writes what is recorded. The texts and the sheets of all lines are laid in the same memory.
+    pub(crate) fn is_met(&self, bytes: &mut [u8], words: &mut [u32]) -> Result<bool, Fault> {
+        let is_short = self.room <= SHORT;
+        match self.call {
+            Call::StringLiteral if is_short => self.is_met_on_bytes(&mut [0; SHORT], bytes),
+            Call::StringLiteral => self.is_met_on_many_bytes(bytes),
+            _ if is_short => self.is_met_on_words(&mut [0; SHORT], bytes, words),
+            _ => self.is_met_on_many_words(bytes, words),
+        }
     }
 }

@@ -1,5 +1,4 @@
 //! Why a line has no outcome.
-use std::alloc::{AllocError, AllocFailed};
 use std::num::ParseIntError;
 use std::str::Utf8Error;
 
@@ -7,8 +6,6 @@ use std::str::Utf8Error;
 pub enum Fault {
     // it cannot be read
     Malformed,
-    // there is no memory for what it says
-    NoMemory(AllocError),
 }
 
 impl From<Utf8Error> for Fault {
@@ -20,17 +17,5 @@ impl From<Utf8Error> for Fault {
 impl From<ParseIntError> for Fault {
     fn from(_: ParseIntError) -> Fault {
         Fault::Malformed
-    }
-}
-
-impl From<AllocError> for Fault {
-    fn from(error: AllocError) -> Fault {
-        Fault::NoMemory(error)
-    }
-}
-
-impl<T: Drop> From<AllocFailed<T>> for Fault {
-    fn from(error: AllocFailed<T>) -> Fault {
-        Fault::NoMemory(AllocError::from(error))
     }
 }

@@ -31,19 +31,17 @@ fn open(rt: &impl Files<File = File>, path: &[u8]) -> io::Result<File> {
 }
 
 // Replays the list that the program is told to, and `answers.txt` where it is told none.
-fn main(rt: HostRuntime) -> io::Result<()> {
+fn main(rt: HostRuntime) {
     let mut name = [0; 4096];
     let path = match rt.arg(1, &mut name) {
         Ok(length) if length > 0 => &name[..length],
         _ => b"answers.txt",
     };
-    let alloc = rt.alloc();
     let mut tally = Tally::default();
     match open(&rt, path) {
-        Ok(file) => replay::replay(&rt, alloc, file, &mut tally)?,
+        Ok(file) => replay::replay(&rt, file, &mut tally),
         Err(error) => failing::fail(rt.stderr(), path, error),
     }
-    edges::try_all(&rt, alloc, &mut tally)?;
+    edges::try_all(&rt, &mut tally);
     pieces::print(&rt, tally);
-    Ok(())
 }
