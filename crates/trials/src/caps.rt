@@ -26,13 +26,13 @@ fn names(alloc: Global) -> Result<Vec<u8>, AllocError> {
     Ok(names)
 }
 
-// The three numbers of an answer.
+// The three numbers of an answer, each a write of its own.
 fn print_answer(rt: &impl Print, label: &str, sorted: Sorted) -> io::Result<()> {
     let told = Numbers::from(sorted.verdict);
-    println!(rt;
-        "{label}: {}, detail {}, settled {}",
-        told.number, told.detail, sorted.settled
-    )
+    print!(rt; "{label}: {}", told.number)?;
+    print!(rt; ", detail {}", told.detail)?;
+    print!(rt; ", settled {}", sorted.settled)?;
+    println!(rt)
 }
 
 fn print_full(rt: &(impl Print + AllocGlobal)) -> io::Result<()> {

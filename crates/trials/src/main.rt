@@ -45,6 +45,6 @@ fn main(rt: HostRuntime) -> io::Result<()> {
     let lists = sequences(alloc, 3, &[0, 1, 2, 3])?;
     let mut tally = Tally::default();
     try_listings(alloc, &mut tally, &lists, &mut Vec::new(alloc), 5)?;
-    println!(rt; "{tally}")?;
+    tally.print(&rt)?;
     caps::print_all(&rt)
 }

@@ -3,7 +3,7 @@ use crate::sheet::Sheet;
 use answers::Refusal;
 use clerk::Sorted;
 use std::alloc::{AllocError, Global};
-use std::fmt;
+use std::io;
 
 // How many sheets were tried, how many got an order, how many 30; how many lists were checked and how many accepted; and how many answers differ.
 #[derive(Clone, Copy, Debug, Default, PartialEq, Eq)]
@@ -72,16 +72,15 @@ impl Tally {
             add_one(&mut self.differ);
         }
     }
-}
 
-impl fmt::Display for Tally {
-    fn fmt<W: fmt::Write>(&self, f: &mut fmt::Formatter<W>) -> fmt::Result {
-        write!(f, "sheets {}, orders {}, ", self.sheets, self.orders)?;
-        write!(f, "cycles {}, lists {}, ", self.cycles, self.lists)?;
-        write!(
-            f,
-            "accepted {}, answers that differ {}",
-            self.accepted, self.differ
-        )
+    // Each count is a write of its own: an output that has no room for all of them gets the first ones.
+    pub(crate) fn print(&self, rt: &impl Print) -> io::Result<()> {
+        print!(rt; "sheets {}", self.sheets)?;
+        print!(rt; ", orders {}", self.orders)?;
+        print!(rt; ", cycles {}", self.cycles)?;
+        print!(rt; ", lists {}", self.lists)?;
+        print!(rt; ", accepted {}", self.accepted)?;
+        print!(rt; ", answers that differ {}", self.differ)?;
+        println!(rt)
     }
 }

@@ -12,9 +12,14 @@ use std::io;
 
 fn main(rt: HostRuntime) -> io::Result<()> {
     let every = every_byte();
-    println!(rt; "one byte: {}", texts_of::<1>(&[]))?;
-    println!(rt; "two bytes: {}", texts_of::<2>(&every))?;
-    println!(rt; "three bytes: {}", texts_of::<3>(&EDGES))?;
-    println!(rt; "four bytes: {}", texts_of::<4>(&EDGES))?;
-    println!(rt; "scalars: {}", Found::all())
+    print!(rt; "one byte:")?;
+    texts_of::<1>(&[]).print(&rt)?;
+    print!(rt; "two bytes:")?;
+    texts_of::<2>(&every).print(&rt)?;
+    print!(rt; "three bytes:")?;
+    texts_of::<3>(&EDGES).print(&rt)?;
+    print!(rt; "four bytes:")?;
+    texts_of::<4>(&EDGES).print(&rt)?;
+    print!(rt; "scalars:")?;
+    Found::all().print(&rt)
 }

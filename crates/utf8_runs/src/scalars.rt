@@ -1,6 +1,7 @@
 //! Every number up to U+10FFFF: encoded, read back, and screened.
+use crate::tally::print_counts;
 use answers::{Place, Refusal};
-use std::fmt;
+use std::io;
 
 // How many are no scalars, how many read back as themselves behind all of their bytes, how many do not, and what screening says of them.
 #[derive(Clone, Copy, Debug, Default, PartialEq, Eq)]
@@ -58,20 +59,19 @@ impl Found {
             Err(_) => &mut self.other,
         });
     }
-}
 
-impl fmt::Display for Found {
-    fn fmt<W: fmt::Write>(&self, f: &mut fmt::Formatter<W>) -> fmt::Result {
-        write!(
-            f,
-            "none {}, read back {}, not {}, ",
-            self.none, self.same, self.other
-        )?;
-        write!(f, "pass screening {}, ", self.passed)?;
-        write!(
-            f,
-            "refused by 4 {}, by 5 {}, by 6 {}",
-            self.four, self.five, self.six
+    pub(crate) fn print(&self, rt: &impl Print) -> io::Result<()> {
+        print_counts(
+            rt,
+            &[
+                (" none ", u64::from(self.none)),
+                (", read back ", u64::from(self.same)),
+                (", not ", u64::from(self.other)),
+                (", pass screening ", u64::from(self.passed)),
+                (", refused by 4 ", u64::from(self.four)),
+                (", by 5 ", u64::from(self.five)),
+                (", by 6 ", u64::from(self.six)),
+            ],
         )
     }
 }

@@ -1,6 +1,6 @@
 //! What is counted of some texts: how many read as a character, how many as ill-formed, the sum of the characters and of the next places.
 use answers::Place;
-use std::fmt;
+use std::io;
 
 #[derive(Clone, Copy, Debug, Default, PartialEq, Eq)]
 pub struct Tally {
@@ -24,19 +24,25 @@ impl Tally {
             }
         }
     }
-}
 
-impl fmt::Display for Tally {
-    fn fmt<W: fmt::Write>(&self, f: &mut fmt::Formatter<W>) -> fmt::Result {
-        write!(
-            f,
-            "characters {}, ill-formed {}, ",
-            self.characters, self.ill
-        )?;
-        write!(
-            f,
-            "ends {}, sum {}, next places {}",
-            self.ends, self.sum, self.places
+    pub(crate) fn print(&self, rt: &impl Print) -> io::Result<()> {
+        print_counts(
+            rt,
+            &[
+                (" characters ", self.characters),
+                (", ill-formed ", self.ill),
+                (", ends ", self.ends),
+                (", sum ", self.sum),
+                (", next places ", self.places),
+            ],
         )
     }
+}
+
+// The counts of a line, each a write of its own: an output that has no room for all of them gets the first ones.
+pub(crate) fn print_counts(rt: &impl Print, counts: &[(&str, u64)]) -> io::Result<()> {
+    for (label, count) in counts {
+        print!(rt; "{label}{count}")?;
+    }
+    println!(rt)
 }
