@@ -2,28 +2,28 @@
 use crate::sheet::{Edge, Sheet};
 use answers::Numbers;
 use clerk::Sorted;
-use std::alloc::{AllocError, Global};
 use std::io;
 
-// Each item but the first needs the one before it eight times, item 1 sixteen times.
-fn edges(alloc: Global) -> Result<Vec<Edge>, AllocError> {
-    let mut edges = vec![in alloc; Edge { item: 1, target: 0 }; 8]?;
+// The words of the full sheet, in the lent ones: each item but the first needs the one before it eight times, item 1 sixteen times. Out of line,
+// so that its dependencies have left the stack when the sheet is sorted.
+#[inline(never)]
+fn full_words(words: &mut [u32]) -> Option<&[u32]> {
+    let mut edges = [Edge::new(1, 0); 2048];
     for target in 0..255 {
         let item = target + 1;
-        edges.extend_from_slice(&[Edge { item, target }; 8])?;
+        let at = 8 * usize::from(item);
+        edges[at..at + 8].fill(Edge::new(item, target));
     }
-    Ok(edges)
+    Sheet::new(256, &edges)?.words(2, words)
 }
 
 // The names of 256 items, each of two letters.
-fn names(alloc: Global) -> Result<Vec<u8>, AllocError> {
-    let mut names = Vec::new(alloc);
-    for first in b'a'..=b'p' {
-        for second in b'a'..=b'p' {
-            names.extend_from_slice(&[first, second])?;
-        }
+fn names() -> [u8; 512] {
+    let mut names = [0; 512];
+    for (name, item) in names.chunks_exact_mut(2).zip(0..=u8::MAX) {
+        name.copy_from_slice(&[b'a' + item / 16, b'a' + item % 16]);
     }
-    Ok(names)
+    names
 }
 
 // The three numbers of an answer, each a write of its own.
@@ -35,11 +35,9 @@ fn print_answer(rt: &impl Print, label: &str, sorted: Sorted) -> io::Result<()> 
     println!(rt)
 }
 
-fn print_full(rt: &(impl Print + AllocGlobal)) -> io::Result<()> {
-    let alloc = rt.alloc();
-    let edges = edges(alloc)?;
-    if let Some(full) = Sheet::new(256, &edges) {
-        let sorted = clerk::toposort(&full.words(alloc, 2)?, &names(alloc)?, &mut [7; 256]);
+fn print_full(rt: &impl Print) -> io::Result<()> {
+    if let Some(words) = full_words(&mut [0; 9221]) {
+        let sorted = clerk::toposort(words, &names(), &mut [7; 256]);
         print_answer(rt, "256 items, 2048 dependencies", sorted)?;
     }
     Ok(())
@@ -51,7 +49,7 @@ fn print_header(rt: &impl Print, label: &str, items: u32, edges: u32) -> io::Res
     print_answer(rt, label, sorted)
 }
 
-pub(crate) fn print_all(rt: &(impl Print + AllocGlobal)) -> io::Result<()> {
+pub(crate) fn print_all(rt: &impl Print) -> io::Result<()> {
     print_full(rt)?;
     print_header(rt, "257 items", 257, 0)?;
     print_header(rt, "2049 dependencies", 0, 2049)?;

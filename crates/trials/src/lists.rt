@@ -8,10 +8,7 @@ impl Sheet<'_> {
     fn is_fault(&self, before: &[u32], word: u32) -> bool {
         word >= self.items
             || before.contains(&word)
-            || self
-                .edges
-                .iter()
-                .any(|edge| edge.item == word && !before.contains(&edge.target))
+            || self.edges.iter().any(|edge| edge.item() == word && !before.contains(&edge.target()))
     }
 
     // The first index that is at fault; the length where there is none, which is what 33 tells of a list that is too short.

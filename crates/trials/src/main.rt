@@ -4,47 +4,38 @@
 //! sheets at the edges of the caps. `sheet.rt` has the sheets, `second.rt` is the second way, `lists.rt` has that for lists.
 #![tactic(auto)]
 
+ghost use Rattle.std.specs.Prelude.{◌≤◌, length};
+
 mod caps;
 mod lists;
 mod second;
-mod sequences;
 mod sheet;
 mod tally;
 
-use sequences::sequences;
 use sheet::{Edge, Sheet};
-use std::alloc::{AllocError, Global};
 use std::io;
 use tally::Tally;
 
-// Tries each listing that has so many more dependencies at most behind these. They are too many to be kept.
-fn try_listings(
-    alloc: Global,
-    tally: &mut Tally,
-    lists: &[Vec<u32>],
-    edges: &mut Vec<Edge>,
-    more: u32,
-) -> Result<(), AllocError> {
+// Tries each listing that begins with so many of these dependencies and has others behind them while there is room. They are too many to be kept.
+fn try_listings(tally: &mut Tally, edges: &mut [Edge], count: usize)
+    requires { count ≤ length edges.old }
+{
     for items in 0..4 {
-        if let Some(sheet) = Sheet::new(items, edges) {
-            tally.count(alloc, sheet, lists)?;
+        if let Some(sheet) = Sheet::new(items, &edges[..count]) {
+            tally.count(sheet);
         }
     }
-    if 0 < more {
+    if count < edges.len() {
         for edge in Edge::ALL {
-            edges.push(edge)?;
-            try_listings(alloc, tally, lists, edges, more - 1)?;
-            edges.pop();
+            edges[count] = edge;
+            try_listings(tally, edges, count + 1);
         }
     }
-    Ok(())
 }
 
 fn main(rt: HostRuntime) -> io::Result<()> {
-    let alloc = rt.alloc();
-    let lists = sequences(alloc, 3, &[0, 1, 2, 3])?;
     let mut tally = Tally::default();
-    try_listings(alloc, &mut tally, &lists, &mut Vec::new(alloc), 5)?;
+    try_listings(&mut tally, &mut [Edge::new(0, 0); 5], 0);
     tally.print(&rt)?;
     caps::print_all(&rt)
 }

@@ -27,8 +27,8 @@ impl Sheet<'_> {
         (0..)
             .zip(permutation)
             .all(|(place, item)| place < self.items || *item == place)
-            && self.edges.iter().all(|edge| place_of(permutation, edge.target)
-                < place_of(permutation, edge.item))
+            && self.edges.iter().all(|edge| place_of(permutation, edge.target())
+                < place_of(permutation, edge.item()))
     }
 
     // The first permutation that is an order.
@@ -39,8 +39,8 @@ impl Sheet<'_> {
 
     // The list is one of the permutations that are orders.
     pub(crate) fn has_order(&self, list: &[u32]) -> bool {
-        PERMUTATIONS.iter().any(|order| self.is_order(order)
-            && order.get(..self.items as usize) == Some(list))
+        PERMUTATIONS.iter().any(|order| order.get(..self.items as usize) == Some(list)
+            && self.is_order(order))
     }
 
     // Item a needs item b, by a chain of at most so many dependencies.
@@ -49,7 +49,7 @@ impl Sheet<'_> {
             return false;
         }
         for edge in self.edges {
-            if edge.item == a && (edge.target == b || self.leads(edge.target, b, most - 1)) {
+            if edge.item() == a && (edge.target() == b || self.leads(edge.target(), b, most - 1)) {
                 return true;
             }
         }
@@ -66,13 +66,13 @@ impl Sheet<'_> {
     pub(crate) fn settled(&self) -> usize {
         self.edges
             .iter()
-            .filter(|edge| !self.waits_for_ever(edge.target))
+            .filter(|edge| !self.waits_for_ever(edge.target()))
             .count()
     }
 
     // The first dependency whose item and target both do.
     pub(crate) fn stuck(&self) -> Option<usize> {
-        self.edges.iter().position(|edge| self.waits_for_ever(edge.item)
-            && self.waits_for_ever(edge.target))
+        self.edges.iter().position(|edge| self.waits_for_ever(edge.item())
+            && self.waits_for_ever(edge.target()))
     }
 }

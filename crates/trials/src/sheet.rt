@@ -1,15 +1,11 @@
 //! Sheets: items with names of one length, and the dependencies that they list.
 ghost use Rattle.std.specs.Prelude.{◌<◌, ◌≤◌, length};
 
-use std::alloc::{AllocError, Global};
-
-// An item needs another one, its target.
+// An item needs another one, its target: a byte each, since the full sheet has 2,048 of them on the stack.
 #[derive(Clone, Copy, Debug, PartialEq, Eq)]
 pub struct Edge {
-    pub item: u32,
-    pub target: u32,
-    ghost item_in: { item < 256 },
-    ghost target_in: { target < 256 },
+    item: u8,
+    target: u8,
 }
 
 impl Edge {
@@ -25,6 +21,22 @@ impl Edge {
         Edge { item: 2, target: 1 },
         Edge { item: 2, target: 2 },
     ];
+
+    pub(crate) fn new(item: u8, target: u8) -> Edge {
+        Edge { item, target }
+    }
+
+    pub(crate) fn item(self) -> u32
+        ensures { result < 256 }
+    {
+        u32::from(self.item)
+    }
+
+    pub(crate) fn target(self) -> u32
+        ensures { result < 256 }
+    {
+        u32::from(self.target)
+    }
 }
 
 #[derive(Clone, Copy, Debug)]
@@ -45,24 +57,29 @@ impl<'a> Sheet<'a> {
         let is_listing = edges.is_sorted_by_key(|edge| edge.item)
             && edges
                 .iter()
-                .all(|edge| edge.item < items && edge.target < items);
+                .all(|edge| edge.item() < items && edge.target() < items);
         is_listing.then_some(Sheet { items, edges })
     }
 
-    // The words of the sheet, where item i is named by the bytes from i times their number on.
-    pub(crate) fn words(&self, alloc: Global, name: u8) -> Result<Vec<u32>, AllocError> {
+    // Lays the words of the sheet into the lent ones, where item i is named by the bytes from i times their number on, and gives those that it has.
+    // None where they are too few.
+    pub(crate) fn words<'b>(&self, name: u8, room: &'b mut [u32]) -> Option<&'b [u32]> {
         let name = u32::from(name);
         let count = self.edges.len() as u32;
         let items_end = 5 + 4 * self.items;
-        let mut words = vec![in alloc; self.items, count, 5, items_end, items_end + 4 * count]?;
-        for item in 0..self.items {
+        let edges_end = items_end + 4 * count;
+        let words = room.get_mut(..edges_end as usize)?;
+        let (header, rows) = words.split_at_mut(5);
+        header.copy_from_slice(&[self.items, count, 5, items_end, edges_end]);
+        let (item_rows, edge_rows) = rows.split_at_mut(4 * self.items as usize);
+        for (row, item) in item_rows.chunks_exact_mut(4).zip(0..=u8::MAX) {
             let first = self.edges.partition_point(|edge| edge.item < item) as u32;
             let listed = self.edges.iter().filter(|edge| edge.item == item).count() as u32;
-            words.extend_from_slice(&[item * name, name, first, listed])?;
+            row.copy_from_slice(&[u32::from(item) * name, name, first, listed]);
         }
-        for (k, edge) in (0..).zip(self.edges) {
-            words.extend_from_slice(&[edge.target * name, name, k, k])?;
+        for ((row, edge), k) in edge_rows.chunks_exact_mut(4).zip(self.edges).zip(0..) {
+            row.copy_from_slice(&[edge.target() * name, name, k, k]);
         }
-        Ok(words)
+        Some(words)
     }
 }

@@ -2,8 +2,10 @@
 use crate::sheet::Sheet;
 use answers::Refusal;
 use clerk::Sorted;
-use std::alloc::{AllocError, Global};
 use std::io;
+
+// As many words as the largest sheet that is tried has, one of three items and five dependencies.
+const SHEET_WORDS: usize = 37;
 
 // How many sheets were tried, how many got an order, how many 30; how many lists were checked and how many accepted; and how many answers differ.
 #[derive(Clone, Copy, Debug, Default, PartialEq, Eq)]
@@ -38,16 +40,14 @@ fn agrees(sheet: &Sheet<'_>, sorted: Sorted, written: &[u32; 4]) -> bool {
 }
 
 impl Tally {
-    // Tries one sheet, and each list as its load order.
-    pub(crate) fn count(
-        &mut self,
-        alloc: Global,
-        sheet: Sheet<'_>,
-        lists: &[Vec<u32>],
-    ) -> Result<(), AllocError> {
-        let words = sheet.words(alloc, 1)?;
+    // Tries one sheet, and each list of up to three words as its load order, the shorter ones first.
+    pub(crate) fn count(&mut self, sheet: Sheet<'_>) {
+        let mut room = [0; SHEET_WORDS];
+        let Some(words) = sheet.words(1, &mut room) else {
+            return;
+        };
         let mut order = [7; 4];
-        let sorted = clerk::toposort(&words, b"abc", &mut order);
+        let sorted = clerk::toposort(words, b"abc", &mut order);
         add_one(&mut self.sheets);
         add_one(match sheet.first_order() {
             Some(_) => &mut self.orders,
@@ -56,10 +56,22 @@ impl Tally {
         if !agrees(&sheet, sorted, &order) {
             add_one(&mut self.differ);
         }
-        for list in lists {
-            self.count_list(&sheet, &words, list);
+        let mut list = [0; 3];
+        for size in 0..=3 {
+            self.count_lists(&sheet, words, &mut list[..size], 0);
         }
-        Ok(())
+    }
+
+    // Checks the list with each way to choose its words from a place on.
+    fn count_lists(&mut self, sheet: &Sheet<'_>, words: &[u32], list: &mut [u32], at: usize) {
+        if at >= list.len() {
+            self.count_list(sheet, words, list);
+            return;
+        }
+        for word in 0..4 {
+            list[at] = word;
+            self.count_lists(sheet, words, list, at + 1);
+        }
     }
 
     // Checks one list.
