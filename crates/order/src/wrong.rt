@@ -30,8 +30,9 @@ pub(crate) fn place(out: &mut impl Write, file: &[u8], line: usize) -> io::Resul
     write!(out, ":{line}: ")
 }
 
-/// Why a list or an order that was read has no answer.
-#[derive(Clone, Copy, Debug)]
+/// Why a list or an order that was read has no answer. No Debug: that of an error asks the system for its words, by a call in C that nothing else
+/// here makes.
+#[derive(Clone, Copy)]
 pub enum Wrong<'a> {
     Line {
         file: &'a [u8],

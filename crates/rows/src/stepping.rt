@@ -9,8 +9,8 @@ use std::io;
 use std::io::Write;
 use steps::Moved;
 
-// Why no row follows.
-#[derive(Clone, Copy, Debug)]
+// Why no row follows. No Debug: that of an error asks the system for its words, by a call in C that nothing else here makes.
+#[derive(Clone, Copy)]
 enum Stop {
     Refused(Refusal),
     // the writer takes no more
