@@ -19,7 +19,8 @@ pub enum Argument<'a> {
 impl<'a> Argument<'a> {
     /// Argument i, counted with the program's name, which is the first: its bytes go to the front of the buffer. `None` where there is no such one.
     pub fn at(rt: &impl Env, i: usize, buffer: &'a mut [u8]) -> Option<Argument<'a>>
-        ensures { IfSome result IsShort }
+        ensures short { IfSome result IsShort }
+        ensures lent { IfSome result (λ argument. length (bytes_of argument) ≤ length buffer.old) }
     {
         let room = buffer.len().min(LONGEST);
         let kept = &mut buffer[..room];

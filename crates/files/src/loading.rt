@@ -1,5 +1,6 @@
 //! The file that an argument names, read into a lent buffer.
-ghost use Rattle.std.specs.Prelude.{◌≤◌, length, IfOk};
+ghost use Rattle.std.specs.Prelude.{◌≡◌, ◌≤◌, length, IfOk};
+ghost use Rattle.files.specs.inner.Arguments.{bytes_of};
 
 use crate::{Argument, Complaint, Fault};
 use std::io::Read;
@@ -32,7 +33,8 @@ fn fill(file: &mut impl Read, buffer: &mut [u8]) -> io::Result<usize>
 }
 
 fn read<'a>(rt: &impl Files, path: &[u8], buffer: &'a mut [u8]) -> Result<&'a [u8], Fault>
-    ensures { IfOk result (λ text. length text.now ≤ 65536) }
+    ensures in_cap { IfOk result (λ text. length text.now ≤ 65536) }
+    ensures lent { IfOk result (λ text. length text.now ≤ length buffer.old) }
 {
     let mut file = fs::open(rt, str::from_utf8(path)?)?;
     let n = fill(&mut file, buffer)?;
@@ -49,7 +51,9 @@ pub fn load<'a>(
     argument: Argument<'a>,
     buffer: &'a mut [u8],
 ) -> Result<Source<'a>, Complaint<'a>>
-    ensures { IfOk result (λ source. length source.text.now ≤ 65536) }
+    ensures in_cap { IfOk result (λ source. length source.text.now ≤ 65536) }
+    ensures lent { IfOk result (λ source. length source.text.now ≤ length buffer.old) }
+    ensures name { IfOk result (λ source. source.name.now ≡ bytes_of argument.entry) }
 {
     let (name, read) = match argument {
         Argument::TooLong => (b"an argument".as_slice(), Err(Fault::NameTooLong)),

@@ -78,6 +78,9 @@ impl Write for Out {
         ensures bytes { WriteAppends None None result buf.now }
         ensures never_fails { IsOk result }
     {
+        if buf.is_empty() {
+            return Ok(0);
+        }
         if self.used >= self.kept.len() {
             self.flush();
         }

@@ -5,8 +5,8 @@ ghost use Rattle.files.specs.inner.Refusals.{numbers_of, shown};
 use answers::{Numbers, Refusal};
 use std::fmt;
 
-// What each number says. Two are not given, and say nothing.
-const WORDS: [&str; 34] = [
+// What each number says. 33 is no number of theirs: of an order that is none more is said than that.
+const WORDS: [&str; 31] = [
     "nothing is wrong",
     "over 65,536 bytes",
     "a text that would end behind position 4,294,967,294 of the map",
@@ -38,9 +38,6 @@ const WORDS: [&str; 34] = [
     "a name that an earlier item has",
     "a dependency on a name that no item has",
     "dependencies that run in a circle",
-    "",
-    "",
-    "no load order",
 ];
 
 /// What a refusal's number says; nothing where there is no such number.
@@ -57,7 +54,10 @@ pub struct InWords(pub Refusal);
 
 impl fmt::Display for InWords {
     fn fmt<W: fmt::Write>(&self, f: &mut fmt::Formatter<W>) -> fmt::Result {
-        f.write_str(words(self.0.number()))
+        f.write_str(match self.0 {
+            Refusal::NotAnOrder(_) => "no load order",
+            refusal => words(refusal.number()),
+        })
     }
 }
 

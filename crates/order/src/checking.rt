@@ -84,22 +84,23 @@ fn print_wrong(
     writeln!(out, " {}", InNumbers(refusal))
 }
 
-/// Says whether an order is a load order of a list.
-pub(crate) fn check<'a>(
+// A frame of its own, since an order that is wrong by itself is not to have room for the list and its sheet.
+#[inline(never)]
+fn check_by<'a>(
     out: &mut impl Write,
     order: &Source<'a>,
+    names: Names<'_>,
     source: &Source<'a>,
 ) -> Result<(), Wrong<'a>> {
-    let proposed = Order::read(order.name, order.text)?;
     let mut list = List::new(source.text);
     list.read(source.name)?;
     let mut sheet = Sheet::new();
     lay(&mut sheet, &list);
     // of a list that is too long no name is looked up: it is refused whatever the order is
     let asked = if list.is_too_long() {
-        proposed.names().before(0)
+        names.before(0)
     } else {
-        proposed.names()
+        names
     };
     let verdict = planner::check_order(
         sheet.as_slice(),
@@ -113,15 +114,18 @@ pub(crate) fn check<'a>(
         }
         // 33 is about the order, the other refusals are about the list.
         Err(refusal @ Refusal::NotAnOrder(index)) => {
-            Ok(print_wrong(
-                out,
-                order.name,
-                proposed.names(),
-                &list,
-                refusal,
-                index as usize,
-            )?)
+            Ok(print_wrong(out, order.name, names, &list, refusal, index as usize)?)
         }
         Err(refusal) => refuse(out, source.name, &list, refusal, 0),
     }
+}
+
+/// Says whether an order is a load order of a list.
+pub(crate) fn check<'a>(
+    out: &mut impl Write,
+    order: &Source<'a>,
+    source: &Source<'a>,
+) -> Result<(), Wrong<'a>> {
+    let proposed = Order::read(order.name, order.text)?;
+    check_by(out, order, proposed.names(), source)
 }
